@@ -1,0 +1,2 @@
+-- Lane words: what the methods of `LaneWord` are equated with.
+pub mod Word
