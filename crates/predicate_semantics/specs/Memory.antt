@@ -1,8 +1,9 @@
 -- Memory as the lane run sees it (document 01, "Written byte"): the image, then zeros, and over them the written bytes, held per lane.
 use mathlib.Core.List.{List, [], _∷_}
-use Prim.Native.Nat.{ℕ, zero, suc, _+_, _-_, _*_, _/_, _%_}
+use Prim.Native.Nat.{ℕ, zero, suc, _-_, _/_, _%_}
 use lib.Dec.{eqb}
 use lib.ListN.{getD}
+use Rattle.riscv32imc.specs.Bits.{join}
 use Rattle.riscv32imc.specs.Constants.{imageBase}
 use Rattle.lane_word.specs.declared.LaneWord.{LaneWord}
 use Rattle.lane_word.specs.Word.{constant, unary, binary}
@@ -32,7 +33,7 @@ put a b (w ∷ ws) =
 unfoldable pub read : List ℕ → ℕ → List Written → ℕ → ℕ → LaneWord
 read image lanes ws zero a = constant lanes 0
 read image lanes ws (suc n) a =
-    binary (λ b v. b + 256 * v) (byteAt (constant lanes (initial image a)) a ws) (read image lanes ws n (suc a))
+    binary join (byteAt (constant lanes (initial image a)) a ws) (read image lanes ws n (suc a))
 
 -- the low n bytes of a word stored from an address: each as known as the word
 unfoldable pub write : List Written → ℕ → ℕ → LaneWord → List Written

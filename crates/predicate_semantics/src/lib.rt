@@ -22,3 +22,14 @@ pub struct CompiledMmioEvent {
     pub value: u32,
     pub location: u32,
 }
+
+// What an accepted run answers beside its events and its trace: the fields of a record's first item, in its order.
+pub struct PredicateTransducerExecution {
+    pub first_input: u8,
+    pub lane_count: u16,
+    pub return_value: u32,
+    pub symbolic_transitions: u32,
+    pub lane_value_operations: u32,
+    pub sparse_memory_bytes: u32,
+    pub event_count: u8,
+}

@@ -10,3 +10,7 @@ slice x high low = x / 2 ^ low % 2 ^ (high + 1 - low)
 -- the low k bits of x as a two's complement number, in 32 bits; all of x where k is 32 or more
 unfoldable pub signExtend : ℕ → ℕ → ℕ
 signExtend x k = cond (ltb (x % 2 ^ k) (2 ^ k - x % 2 ^ k)) (x % 2 ^ k) (x % 2 ^ k + (2 ^ 32 - 2 ^ k))
+
+-- a word from its lowest byte and the bytes above it
+abbrev pub join : ℕ → ℕ → ℕ
+join low high = (low + 256 * high) % 2 ^ 32
