@@ -1,2 +1,0 @@
--- Lane words: what the methods of `LaneWord` are equated with.
-pub mod Word

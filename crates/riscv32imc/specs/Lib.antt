@@ -1,4 +1,0 @@
--- The instruction set's numbers: what the functions of this crate are equated with.
-pub mod Constants
-pub mod Bits
-pub mod Arithmetic
