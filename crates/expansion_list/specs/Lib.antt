@@ -1,0 +1,2 @@
+-- How the list writes an expansion.
+pub mod List
