@@ -1,0 +1,2 @@
+-- How the list writes what a word decodes to.
+pub mod List

@@ -1,0 +1,12 @@
+use borrow.Author.Needs.{needs}
+use Rattle.riscv_decode.proofs.operands.s_type.Statement.{statement}
+use Rattle.riscv_decode.proofs.operands.s_type.Tie as tie
+
+pub s-type-spec : {M : Type 1} → statement M
+s-type-spec =
+    tie.close
+    (tie.spec
+    (λ c. search needs)
+    (λ c. search needs)
+    (λ c κs. search needs)
+    (λ c. rw (c .sign-extend .ensures)))

@@ -1,0 +1,115 @@
+-- The manual's listing of instructions ("RV32/64G Instruction Set Listings"), in the order of document 01.
+use mathlib.Core.Bool.{Bool, _&&_}
+use mathlib.Core.List.{List, [], _∷_}
+use Prim.Native.Nat.{ℕ}
+use lib.Dec.{eqb}
+use Rattle.riscv_decode.specs.Operands.{opcodeField, funct3Field, funct7Field, uType, jType, iType, bType, sType, shiftType, rType}
+use Rattle.riscv_decode.specs.declared.UType.{UType}
+use Rattle.riscv_decode.specs.declared.JType.{JType}
+use Rattle.riscv_decode.specs.declared.IType.{IType}
+use Rattle.riscv_decode.specs.declared.BType.{BType}
+use Rattle.riscv_decode.specs.declared.SType.{SType}
+use Rattle.riscv_decode.specs.declared.ShiftType.{ShiftType}
+use Rattle.riscv_decode.specs.declared.RType.{RType}
+use Rattle.riscv_decode.specs.declared.Operation.{Operation}
+use Rattle.riscv_decode.specs.declared.Operation.the-variants.{Lui, Auipc, Jal, Jalr, Beq, Bne, Blt, Bge, Bltu, Bgeu, Lb, Lh, Lw, Lbu, Lhu, Sb, Sh, Sw, Addi, Slti, Sltiu, Xori, Ori, Andi, Slli, Srli, Srai, Add, Sub, Sll, Slt, Sltu, Xor, Srl, Sra, Or, And, Mul, Div, Divu, Rem, Remu, Fence, FenceI}
+
+-- a line of the listing by its format: the opcode, the funct3 and the funct7 that it fixes, in this order, and the operation
+pub data Line : Type 0 where
+  U : ℕ → (UType → Operation) → Line
+  J : ℕ → (JType → Operation) → Line
+  I : ℕ → ℕ → (IType → Operation) → Line
+  B : ℕ → ℕ → (BType → Operation) → Line
+  S : ℕ → ℕ → (SType → Operation) → Line
+  Shift : ℕ → ℕ → ℕ → (ShiftType → Operation) → Line
+  R : ℕ → ℕ → ℕ → (RType → Operation) → Line
+  NoOperands : ℕ → ℕ → Operation → Line
+
+-- "Forty-four operations are accepted": a line's place, counted from 1, is its operation's number. FENCE and FENCE.I "are
+-- known by opcode 0F and funct3 0 or 1", whatever their other fields
+unfoldable pub listing : List Line
+listing =
+    U 0x37 Lui ∷
+    U 0x17 Auipc ∷
+    J 0x6f Jal ∷
+    I 0x67 0 Jalr ∷
+    B 0x63 0 Beq ∷
+    B 0x63 1 Bne ∷
+    B 0x63 4 Blt ∷
+    B 0x63 5 Bge ∷
+    B 0x63 6 Bltu ∷
+    B 0x63 7 Bgeu ∷
+    I 0x03 0 Lb ∷
+    I 0x03 1 Lh ∷
+    I 0x03 2 Lw ∷
+    I 0x03 4 Lbu ∷
+    I 0x03 5 Lhu ∷
+    S 0x23 0 Sb ∷
+    S 0x23 1 Sh ∷
+    S 0x23 2 Sw ∷
+    I 0x13 0 Addi ∷
+    I 0x13 2 Slti ∷
+    I 0x13 3 Sltiu ∷
+    I 0x13 4 Xori ∷
+    I 0x13 6 Ori ∷
+    I 0x13 7 Andi ∷
+    Shift 0x13 1 0x00 Slli ∷
+    Shift 0x13 5 0x00 Srli ∷
+    Shift 0x13 5 0x20 Srai ∷
+    R 0x33 0 0x00 Add ∷
+    R 0x33 0 0x20 Sub ∷
+    R 0x33 1 0x00 Sll ∷
+    R 0x33 2 0x00 Slt ∷
+    R 0x33 3 0x00 Sltu ∷
+    R 0x33 4 0x00 Xor ∷
+    R 0x33 5 0x00 Srl ∷
+    R 0x33 5 0x20 Sra ∷
+    R 0x33 6 0x00 Or ∷
+    R 0x33 7 0x00 And ∷
+    R 0x33 0 0x01 Mul ∷
+    R 0x33 4 0x01 Div ∷
+    R 0x33 5 0x01 Divu ∷
+    R 0x33 6 0x01 Rem ∷
+    R 0x33 7 0x01 Remu ∷
+    NoOperands 0x0f 0 Fence ∷
+    NoOperands 0x0f 1 FenceI ∷
+    []
+
+-- the operation of a line, with the operands that the word has in the line's format
+unfoldable pub operation : Line → ℕ → Operation
+operation (U opcode o) w = o (uType w)
+operation (J opcode o) w = o (jType w)
+operation (I opcode funct3 o) w = o (iType w)
+operation (B opcode funct3 o) w = o (bType w)
+operation (S opcode funct3 o) w = o (sType w)
+operation (Shift opcode funct3 funct7 o) w = o (shiftType w)
+operation (R opcode funct3 funct7 o) w = o (rType w)
+operation (NoOperands opcode funct3 o) w = o
+
+-- what a line asks of a word: the opcode, and the funct3 and the funct7 where its format has them
+pub data Fixed : Type 0 where
+  Opcode : ℕ → Fixed
+  Funct3 : ℕ → ℕ → Fixed
+  Funct7 : ℕ → ℕ → ℕ → Fixed
+
+-- what each format fixes
+unfoldable pub fixed : Line → Fixed
+fixed (U opcode o) = Opcode opcode
+fixed (J opcode o) = Opcode opcode
+fixed (I opcode funct3 o) = Funct3 opcode funct3
+fixed (B opcode funct3 o) = Funct3 opcode funct3
+fixed (S opcode funct3 o) = Funct3 opcode funct3
+fixed (Shift opcode funct3 funct7 o) = Funct7 opcode funct3 funct7
+fixed (R opcode funct3 funct7 o) = Funct7 opcode funct3 funct7
+fixed (NoOperands opcode funct3 o) = Funct3 opcode funct3
+
+-- the word has these fields
+unfoldable pub has : Fixed → ℕ → Bool
+has (Opcode opcode) w = eqb (opcodeField w) opcode
+has (Funct3 opcode funct3) w = eqb (opcodeField w) opcode && eqb (funct3Field w) funct3
+has (Funct7 opcode funct3 funct7) w =
+    eqb (opcodeField w) opcode && eqb (funct3Field w) funct3 && eqb (funct7Field w) funct7
+
+-- "MULH, MULHSU, MULHU, ECALL and EBREAK are refused": their fields; the last two are of opcode 73, which is refused whole
+unfoldable pub refused : List Fixed
+refused = Funct7 0x33 1 0x01 ∷ Funct7 0x33 2 0x01 ∷ Funct7 0x33 3 0x01 ∷ Opcode 0x73 ∷ []
