@@ -1,0 +1,3 @@
+-- Lane words: what the methods of `LaneWord` are equated with.
+pub mod Word
+pub mod Flags
