@@ -1,0 +1,93 @@
+-- Demand 3: the prefix form and the acceptance form over any list of inputs, and then for inputs 6 to 255.
+use mathlib.Core.Path.{_≡_, refl, _∙_, ap}
+use mathlib.Core.Bool.{Bool, true, false}
+use mathlib.Core.Option.{Option, some}
+use Prim.Native.Nat.{ℕ, zero, suc, _+_, _-_, _<_}
+use native.Mathlib.Omega.{arith}
+use lib.Dec.{eqb}
+use lib.ListN.{getElem?}
+use Rattle.riscv32imc.specs.Constants.{maxSteps}
+use Rattle.lane_word.specs.Word.{inputs}
+use Rattle.predicate_semantics.specs.Program.{Program, stop}
+use Rattle.predicate_semantics.specs.Choice.{choose}
+use Rattle.predicate_semantics.specs.Refusal.{Tested, passed, refused, _>>=_}
+use Rattle.predicate_semantics.specs.Lane.{LaneState, Setup, on, lanes, memoryOf, step, run, after, begin, start, reached, laneRun}
+use Rattle.predicate_semantics.specs.Scalar.{ScalarState}
+use Rattle.predicate_semantics.specs.Standing.{setup, standing, standingLaneRun, standingScalarRun}
+use Rattle.predicate_semantics.specs.Guarantee.{Follows, PrefixGuarantee, CompletedGuarantee, AcceptanceGuarantee, Guarantee}
+use Rattle.predicate_semantics.proofs.Sim.{Sim, agrees, answered}
+use Rattle.predicate_semantics.proofs.Laws.{run-stop, run-out, run-next, run-refused, step-steps}
+use Rattle.predicate_semantics.proofs.Steps.{Related, related, at-reg, sim-reached, sim-laneRun}
+
+module _ (p : Program) (l : Setup) where
+  followed : (k input : ℕ) → getElem? (l .inputs) k ≡ some input → {s : LaneState} {t : ScalarState}
+      → Related (p .image) (l .inputs) k s t → Follows p l k s t
+  unfolding lanes memoryOf
+  followed k input here (related {s} {rs} {m} regs mem) = record {
+    pc = refl;
+    steps = refl;
+    trace = refl;
+    locations = refl;
+    registers = λ i. at-reg p l k input here s rs m regs mem i .value;
+    memory = λ a. mem a .value;
+  }
+
+  opened : {k : ℕ} {s : LaneState} {o : Option ScalarState} → (input : ℕ) → getElem? (l .inputs) k ≡ some input
+      → Sim (Related (p .image) (l .inputs) k) (passed s) o → (t : ScalarState) × (o ≡ some t) × Follows p l k s t
+  opened input here (agrees {b} r) = (b, refl, followed _ input here r)
+
+  pub prefix-guarantee : PrefixGuarantee p l
+  prefix-guarantee n s e k input here others = opened input here (rw e at (sim-reached p l k input here n others))
+
+  -- a state is so many steps on from another
+  abbrev On : LaneState → LaneState → Type 0
+  On s u = (m : ℕ) × (u .steps ≡ s .steps + m) × (after p l m s ≡ passed u)
+
+  on-none : (s : LaneState) → On s s
+  unfolding after
+  on-none s = (0, omega arith, refl)
+
+  on-next : (s t u : LaneState) → eqb (s .pc) stop ≡ false → step p l s ≡ passed t → On t u → On s u
+  unfolding after choose _>>=_
+  on-next s t u b e (m, n, h) = (suc m, omega (arith, step-steps p l s t e), rw (b, e) h)
+
+  -- a run ends in a state that it has reached
+  on-run : (n : ℕ) (s : LaneState) → On s ((run p l n s) .state)
+  on-run zero s = go (eqb (s .pc) stop) refl
+    where
+      go : (b : Bool) → eqb (s .pc) stop ≡ b → On s ((run p l zero s) .state)
+      go true b = rw (run-stop p l zero s b) (on-none s)
+      go false b = rw (run-out p l s b) (on-none s)
+  on-run (suc n) s = go (eqb (s .pc) stop) refl (step p l s) refl (λ t. on-run n t)
+    where
+      go : (b : Bool) → eqb (s .pc) stop ≡ b → (m : Tested LaneState) → step p l s ≡ m → ((t : LaneState) → On t ((run p l n t) .state))
+          → On s ((run p l (suc n) s) .state)
+      go true b m e h = rw (run-stop p l (suc n) s b) (on-none s)
+      go false b (passed t) e h = rw (run-next p l n s t b e) (on-next s t _ b e (h t))
+      go false b (refused r) e h = rw (run-refused p l n s r b e) (on-none s)
+
+  reached-end : (limit : ℕ) → start p l ≡ passed (begin p l) → reached p l ((laneRun p l limit) .state .steps) ≡ passed ((laneRun p l limit) .state)
+  unfolding laneRun on reached _>>=_ begin
+  reached-end limit e = rw e (go (on-run limit (begin p l)))
+    where
+      go : {u : LaneState} → On (begin p l) u → after p l (u .steps) (begin p l) ≡ passed u
+      go {u} (m, n, h) = ap (λ (x : ℕ). after p l x (begin p l)) (omega (arith, n)) ∙ h
+
+  pub completed-guarantee : (limit : ℕ) → CompletedGuarantee p l limit
+  completed-guarantee limit e = prefix-guarantee _ _ (reached-end limit e)
+
+  pub acceptance-guarantee : (limit : ℕ) → AcceptanceGuarantee p l limit
+  acceptance-guarantee limit r e k input here others =
+      answered (rw e at (sim-laneRun p l k input here limit others))
+
+inputs-at : (first count k : ℕ) → k < count → getElem? (inputs first count) k ≡ some (first + k)
+unfolding inputs
+inputs-at first zero k h = absurd (omega arith)
+inputs-at first (suc count) zero h = ap some (omega arith)
+inputs-at first (suc count) (suc k) h = inputs-at (suc first) count k (omega arith) ∙ ap some (omega arith)
+
+pub guarantee : Guarantee
+unfolding setup standingLaneRun standingScalarRun
+guarantee image symbols rows entries r e input low high others =
+    acceptance-guarantee (standing image symbols) (setup rows entries) maxSteps r e (input - 6) input
+    (inputs-at 6 250 (input - 6) (omega arith) ∙ ap some (omega arith)) others

@@ -1,0 +1,12 @@
+-- What is proved of the two runs: demand 3, the cases of document 01, the record's rules, and laws that the proof of a loop cites.
+pub mod Lists
+pub mod Sim
+pub mod Values
+pub mod Steps
+pub mod Guarantee
+pub mod Laws
+pub mod Cases
+pub mod Always
+pub mod Written
+pub mod RecordRules
+pub mod ExpandedWords

@@ -1,0 +1,449 @@
+-- The record's rules hold of every run.
+use mathlib.Core.Path.{_≡_, refl, sym, _∙_, subst}
+use mathlib.Core.Bool.{Bool, true, false, _&&_}
+use mathlib.Core.Logic.{_⊎_, inl, inr}
+use mathlib.Core.List.{List, [], _∷_, _++_, map}
+use Prim.Native.Nat.{ℕ, zero, suc, _+_, _-_, _≤_, _<_, _%_, _^_}
+use native.Mathlib.Nat.{le-trans}
+use native.Mathlib.Omega.{arith}
+use lib.Dec.{T, leb, ltb, eqb, leb→le, ltb→lt, eqb→eq}
+use lib.ListN.{getD, length, length-append}
+use borrow.Author.Tests.{eqb-true, eqb-false}
+use Rattle.riscv32imc.specs.Constants.{imageBase, maxImageBytes, maxMemoryBytes, maxSteps}
+use Rattle.riscv32imc.specs.Arithmetic.{target}
+use Rattle.riscv32imc.specs.Bits.{join}
+use Rattle.riscv_decode.specs.declared.Fetched.{Fetched}
+use Rattle.riscv_decode.specs.declared.Operation.{Operation}
+use Rattle.riscv_decode.specs.declared.Operation.the-variants.{Lui, Auipc, Jal, Jalr, Beq, Bne, Blt, Bge, Bltu, Bgeu, Lb, Lh, Lw, Lbu, Lhu, Sb, Sh, Sw, Addi, Slti, Sltiu, Xori, Ori, Andi, Slli, Srli, Srai, Add, Sub, Sll, Slt, Sltu, Xor, Srl, Sra, Or, And, Mul, Div, Divu, Rem, Remu, Fence, FenceI}
+use Rattle.lane_word.specs.declared.LaneWord.{LaneWord}
+use Rattle.lane_word.specs.Word.{unknown, constant, domain, zip, unary, binary, every, inputs}
+use Rattle.predicate_semantics.specs.declared.CompiledMmioEvent.{CompiledMmioEvent}
+use Rattle.predicate_semantics.specs.declared.PredicateControlStep.{PredicateControlStep}
+use Rattle.predicate_semantics.specs.declared.Rv32SymbolLayout.{Rv32SymbolLayout}
+use Rattle.predicate_semantics.specs.Choice.{choose}
+use Rattle.predicate_semantics.specs.Meaning.{Meaning, nothing, literal, compute, jump, jumpTo, branch, load, store, meaning}
+use Rattle.predicate_semantics.specs.Program.{Program, memoryEnd, stop, stopWord, imageEnd, sized, inMemory, placed}
+use Rattle.predicate_semantics.specs.State.{Result, Effect, goes, sets, stores, Looked, fill, atStart, advance, apply}
+use Rattle.predicate_semantics.specs.Memory.{Written, LaneBytes, put, read, write}
+use Rattle.predicate_semantics.specs.Refusal.{Refusal, Tested, passed, refused, refuse, _>>=_}
+use Rattle.predicate_semantics.specs.Lane.{LaneState, Setup, Ended, uniform, on, inside, lanes, memoryOf, agreed, reg, access, accessAgreed, fetchWord, fetch, execute, look, step, events, finish, run, begin, start, laneRun}
+use Rattle.predicate_semantics.specs.Standing.{standingCore, standing, setup, standingLaneRun}
+use Rattle.predicate_semantics.specs.RecordRules.{Chain, Words, ExpandsToWords, Completed, Accepted, TakesStep, proper}
+use Rattle.predicate_semantics.proofs.Lists.{both-left, both-right}
+use Rattle.predicate_semantics.proofs.Laws.{run-stop, steps-apply, write-grows}
+use Rattle.predicate_semantics.proofs.Always.{Always, stops, gives, bind, weaken, always-require, always-found, always-choose, passes, refuses}
+use Rattle.predicate_semantics.proofs.Written.{Distinct, distinct-none, distinct-write, distinct-fits}
+
+-- a trace goes on from where it leads
+chain-add : (from to : ℕ) (t : List PredicateControlStep) (c : PredicateControlStep) → Chain from t to → c .«program_counter» ≡ to
+    → (c .«instruction_bytes» ≡ 2) ⊎ (c .«instruction_bytes» ≡ 4) → Chain from (t ++ c ∷ []) (c .«next_program_counter»)
+chain-add from to [] c h e b = (e ∙ sym h, b, refl)
+chain-add from to (d ∷ t) c h e b = (h .0, h .1, chain-add (d .«next_program_counter») to t c (h .2) e b)
+
+-- the stop word's four bytes
+four : (w : LaneWord) → length (write [] 4 stop w) ≡ 4
+unfolding write put choose
+four w = refl
+
+words-add : (t : List PredicateControlStep) (c : PredicateControlStep) → Words t
+    → c .«program_counter» < 2 ^ 32 → c .«instruction_word» < 2 ^ 32 → c .«next_program_counter» < 2 ^ 32 → Words (t ++ c ∷ [])
+words-add [] c h x y z = (x, y, z, tt)
+words-add (d ∷ t) c h x y z = (h .0, h .1, h .2, words-add t c (h .3) x y z)
+
+-- lane 0 of a lane word that is joined from bytes, or moved to a target
+first-zip : (xs ys : List ℕ) → getD (zip join xs ys) 0 0 < 2 ^ 32
+unfolding zip
+first-zip [] ys = omega arith
+first-zip (x ∷ xs) [] = omega arith
+first-zip (x ∷ xs) (y ∷ ys) = omega arith
+
+first-read : (lanes : ℕ) (m : LaneBytes) (n a : ℕ) → getD ((read lanes m n a) .values) 0 0 < 2 ^ 32
+unfolding read constant binary
+first-read zero m zero a = omega arith
+first-read (suc lanes) m zero a = omega arith
+first-read zero m (suc n) a = first-zip _ _
+first-read (suc lanes) m (suc n) a = first-zip _ _
+
+first-target : (offset : ℕ) (xs : List ℕ) → getD (map (λ v. target v offset) xs) 0 0 < 2 ^ 32
+first-target offset [] = omega arith
+first-target offset (x ∷ xs) = omega arith
+
+either-fits : (b : Bool) (x y : ℕ) → x < 2 ^ 32 → y < 2 ^ 32 → choose b (λ _. x) (λ _. y) < 2 ^ 32
+unfolding choose
+either-fits true x y h g = h
+either-fits false x y h g = g
+
+-- where a jump or a branch leads
+abbrev Leads : Meaning → Type 0
+Leads nothing = Unit {0}
+Leads (literal rd v) = Unit {0}
+Leads (compute rd f a b) = Unit {0}
+Leads (jump rd to) = to < 2 ^ 32
+Leads (jumpTo rd a offset) = Unit {0}
+Leads (branch f a b to) = to < 2 ^ 32
+Leads (load rd a offset n extend) = Unit {0}
+Leads (store a b offset n) = Unit {0}
+
+meaning-leads : (o : Operation) (pc : ℕ) → Leads (meaning o pc)
+unfolding meaning
+meaning-leads (Lui v) pc = tt
+meaning-leads (Auipc v) pc = tt
+meaning-leads (Jal v) pc = omega arith
+meaning-leads (Jalr v) pc = tt
+meaning-leads (Beq v) pc = omega arith
+meaning-leads (Bne v) pc = omega arith
+meaning-leads (Blt v) pc = omega arith
+meaning-leads (Bge v) pc = omega arith
+meaning-leads (Bltu v) pc = omega arith
+meaning-leads (Bgeu v) pc = omega arith
+meaning-leads (Lb v) pc = tt
+meaning-leads (Lh v) pc = tt
+meaning-leads (Lw v) pc = tt
+meaning-leads (Lbu v) pc = tt
+meaning-leads (Lhu v) pc = tt
+meaning-leads (Sb v) pc = tt
+meaning-leads (Sh v) pc = tt
+meaning-leads (Sw v) pc = tt
+meaning-leads (Addi v) pc = tt
+meaning-leads (Slti v) pc = tt
+meaning-leads (Sltiu v) pc = tt
+meaning-leads (Xori v) pc = tt
+meaning-leads (Ori v) pc = tt
+meaning-leads (Andi v) pc = tt
+meaning-leads (Slli v) pc = tt
+meaning-leads (Srli v) pc = tt
+meaning-leads (Srai v) pc = tt
+meaning-leads (Add v) pc = tt
+meaning-leads (Sub v) pc = tt
+meaning-leads (Sll v) pc = tt
+meaning-leads (Slt v) pc = tt
+meaning-leads (Sltu v) pc = tt
+meaning-leads (Xor v) pc = tt
+meaning-leads (Srl v) pc = tt
+meaning-leads (Sra v) pc = tt
+meaning-leads (Or v) pc = tt
+meaning-leads (And v) pc = tt
+meaning-leads (Mul v) pc = tt
+meaning-leads (Div v) pc = tt
+meaning-leads (Divu v) pc = tt
+meaning-leads (Rem v) pc = tt
+meaning-leads (Remu v) pc = tt
+meaning-leads Fence pc = tt
+meaning-leads FenceI pc = tt
+
+module _ (p : Program) (l : Setup) where
+  -- no refusal 1
+  abbrev Sized : Type 0
+  Sized = (0 < length (p .image)) × (length (p .image) ≤ maxImageBytes)
+
+  fit : T (sized (p .image)) → Sized
+  unfolding sized
+  fit t =
+      let some : Bool = ltb 0 (length (p .image)) in
+      let few : Bool = leb (length (p .image)) maxImageBytes in
+      (ltb→lt _ _ (both-left some few t), leb→le _ _ (both-right some few t))
+
+  -- no refusal 2
+  entry-fits : T (placed (p .symbols)) → p .symbols .entry < 2 ^ 32
+  unfolding placed inMemory
+  entry-fits t =
+      let e : ℕ = p .symbols .entry in
+      let in-memory : Bool = leb imageBase e && ltb e memoryEnd in
+      omega (arith, ltb→lt e memoryEnd (both-right (leb imageBase e) (ltb e memoryEnd) (both-left in-memory _ (both-left (in-memory && _) _ t))))
+
+  -- written bytes past the image, in memory, stop's among them, and no more than there are rows
+  record Stored (ws : List Written) : Type 0 where
+    least : 4 ≤ length ws
+    most : length ws ≤ l .rows
+    distinct : Distinct (imageEnd p) memoryEnd ws
+
+  -- the trace of every run
+  record Traced (s : LaneState) : Type 0 where
+    counted : length (s .trace) ≡ s .steps
+    entered : s .steps ≤ l .entries
+    chained : Chain (p .symbols .entry) (s .trace) (s .pc)
+    words : ExpandsToWords (p .core) → Words (s .trace)
+
+  -- what every step keeps, once a run has started
+  record Kept (s : LaneState) : Type 0 where
+    fits : Sized
+    small : s .pc < 2 ^ 32
+    traced : Traced s
+    stored : Stored (s .memory)
+
+  -- a fetched instruction
+  record Short (f : Fetched) : Type 0 where
+    size : (f .length ≡ 2) ⊎ (f .length ≡ 4)
+    word-fits : ExpandsToWords (p .core) → f .word < 2 ^ 32
+
+  -- where a step leads, and what it stores
+  abbrev Clear : LaneState → Effect LaneWord → Type 0
+  Clear s (goes next) = next < 2 ^ 32
+  Clear s (sets rd value next) = next < 2 ^ 32
+  Clear s (stores a n value next) =
+      (next < 2 ^ 32) × (imageEnd p ≤ a) × (a + n ≤ memoryEnd) × (length (write (s .memory) n a value) ≤ l .rows)
+
+  room : {ws : List Written} → Sized → Distinct (imageEnd p) memoryEnd ws → length ws < maxMemoryBytes
+  room {ws} h d =
+      omega (arith, distinct-fits (imageEnd p) (maxMemoryBytes - length (p .image)) ws (subst (λ (x : ℕ). Distinct (imageEnd p) x ws) (omega arith) d))
+
+  kept-advance : {s : LaneState} (f : Fetched) (next : ℕ) (registers : List LaneWord) (ws : List Written) (locations : List ℕ)
+      → Kept s → Short f → s .steps < l .entries → next < 2 ^ 32 → Stored ws → Kept (advance s f next registers ws locations)
+  unfolding advance
+  kept-advance {s} f next registers ws locations k b e n stored = record {
+    fits = k .fits;
+    small = n;
+    traced = record {
+      counted = simp length-append (omega (arith, k .traced .counted));
+      entered = e;
+      chained = chain-add (p .symbols .entry) (s .pc) (s .trace) _ (k .traced .chained) refl (b .size);
+      words = λ x. words-add (s .trace) _ (k .traced .words x) (k .small) (b .word-fits x) n;
+    };
+    stored = stored;
+  }
+
+  kept-apply : {s : LaneState} (f : Fetched) (e : Effect LaneWord) → Kept s → Short f → Clear s e → s .steps < l .entries
+      → Kept (apply write (p .symbols .«event_count») s f e)
+  unfolding apply
+  kept-apply f (goes next) k b c t = kept-advance f next _ _ _ k b t c (k .stored)
+  kept-apply f (sets rd value next) k b c t = kept-advance f next _ _ _ k b t c (k .stored)
+  kept-apply {s} f (stores a n value next) k b c t = kept-advance f next _ _ _ k b t (c .0) (record {
+    least = le-trans (k .stored .least) (write-grows n (s .memory) a value);
+    most = c .3;
+    distinct = distinct-write n a value (c .1) (c .2) (k .stored .distinct);
+  })
+
+  -- the value that lanes agree on is lane 0's
+  always-agreed : (role : ℕ) (w : LaneWord) → T (leb 1 role && leb role 10) → Always (λ v. v ≡ getD (w .values) 0 0) (agreed (l .inputs) role w)
+  unfolding agreed uniform choose refuse proper
+  always-agreed role w t = go (w .known) (every (getD (w .values) 0 0) (w .values))
+    where
+      go : (b c : Bool)
+          → Always (λ v. v ≡ getD (w .values) 0 0) (choose b (λ _. choose c (λ _. passed (getD (w .values) 0 0)) (λ _. refuse 7 role)) (λ _. refuse 6 role))
+      go true true = gives refl
+      go true false = stops _ t
+      go false c = stops _ t
+
+  always-inside : (a n : ℕ) → Always (λ _. a + n ≤ memoryEnd) (inside a n)
+  unfolding inside proper
+  always-inside a n =
+      bind (always-require 4 _ tt) (λ u t.
+      weaken (always-require 5 _ tt) (λ u t. leb→le _ _ t))
+
+  always-access : (m : LaneBytes) (n a : ℕ) → Always (λ w. w ≡ read (length (l .inputs)) m n a) (access (l .inputs) m n a)
+  unfolding access
+  always-access m n a = bind (always-inside a n) (λ u t. gives refl)
+
+  always-accessAgreed : (role : ℕ) (m : LaneBytes) (n a : ℕ) → T (leb 1 role && leb role 10)
+      → Always (λ v. v < 2 ^ 32) (accessAgreed (l .inputs) role m n a)
+  unfolding accessAgreed
+  always-accessAgreed role m n a t =
+      bind (always-access m n a) (λ w e.
+      weaken (always-agreed role w t) (λ v f. rw (f, e) (first-read (length (l .inputs)) m n a)))
+
+  always-fetchWord : (m : LaneBytes) (pc : ℕ)
+      → Always (λ w. ((w .1 ≡ 2) ⊎ (w .1 ≡ 4)) × (ExpandsToWords (p .core) → w .0 < 2 ^ 32)) (fetchWord (l .inputs) (p .core) m pc)
+  unfolding fetchWord proper
+  always-fetchWord m pc =
+      bind (always-accessAgreed 1 m 2 pc tt) (λ half _.
+      always-choose (eqb (half % 4) 3)
+      (λ _. bind (always-accessAgreed 1 m 4 pc tt) (λ word h. gives (inr refl, λ x. h)))
+      (λ _. bind (always-found 8 (p .core .expand half) tt) (λ word e. gives (inl refl, λ x. x half word e))))
+
+  always-fetch : (m : LaneBytes) (steps pc : ℕ) → Always Short (fetch (l .inputs) (p .core) m steps pc)
+  unfolding fetch proper
+  always-fetch m steps pc =
+      bind (always-fetchWord m pc) (λ w h.
+      bind (always-found 9 _ tt) (λ operation _. gives (record { size = h .0; word-fits = h .1 })))
+
+  always-execute : (s : LaneState) (next : ℕ) (d : Meaning) → next < 2 ^ 32 → Leads d → Always (Clear s) (execute p l s next d)
+  unfolding execute proper unary
+  always-execute s next nothing h g = gives h
+  always-execute s next (literal rd v) h g = gives h
+  always-execute s next (compute rd f a b) h g = gives h
+  always-execute s next (jump rd to) h g = gives g
+  always-execute s next (jumpTo rd a offset) h g =
+      bind (always-agreed 2 _ tt) (λ to e.
+      bind (always-require 10 _ tt) (λ u t. gives (rw e (first-target offset ((reg p l s a) .values)))))
+  always-execute s next (branch f a b to) h g = bind (always-agreed 5 _ tt) (λ direction _. gives (either-fits (eqb direction 0) next to h g))
+  always-execute s next (load rd a offset n extend) h g =
+      bind (always-agreed 3 _ tt) (λ address _.
+      bind (always-access (memoryOf p l s) n address) (λ w _. gives h))
+  always-execute s next (store a b offset n) h g =
+      bind (always-agreed 4 _ tt) (λ address _.
+      bind (always-inside address n) (λ u high.
+      bind (always-require 11 _ tt) (λ u low.
+      bind (always-require 13 _ tt) (λ u rows. gives (h, leb→le _ _ low, high, leb→le _ _ rows)))))
+
+  always-look : (s : LaneState) → Always (λ (seen : Looked LaneWord). Short (seen .fetched) × Clear s (seen .effect)) (look p l s)
+  unfolding look
+  always-look s =
+      bind (always-fetch _ _ _) (λ fetched b.
+      bind (always-execute s _ _ (omega arith) (meaning-leads (fetched .operation) (s .pc))) (λ effect c. gives (b, c)))
+
+  always-step : (s : LaneState) → Kept s → Always (λ t. Kept t × (t .steps ≡ suc (s .steps))) (step p l s)
+  unfolding step proper
+  always-step s k =
+      bind (always-look s) (λ seen h.
+      bind (always-require 14 _ tt) (λ u t.
+      gives (kept-apply (seen .fetched) (seen .effect) k (h .0) (h .1) (ltb→lt _ _ t), steps-apply write _ s (seen .fetched) (seen .effect))))
+
+  always-events : (m : LaneBytes) (i : ℕ) (done : List CompiledMmioEvent) (ls : List ℕ)
+      → Always (λ es. length es ≡ length done + length ls) (events p l m i done ls)
+  unfolding events
+  always-events m i done [] = gives {a = done} (omega arith)
+  always-events m i done (x ∷ ls) =
+      bind (always-accessAgreed 8 m 4 _ tt) (λ o _.
+      bind (always-accessAgreed 9 m 4 _ tt) (λ f _.
+      bind (always-accessAgreed 10 m 4 _ tt) (λ v _.
+      weaken (always-events m (suc i) _ ls) (λ es e. e ∙ simp length-append (omega arith)))))
+
+  -- what an answer has from the state at stop
+  record Answered (s : LaneState) (r : Result) : Type 0 where
+    same-steps : s .steps ≡ r .steps
+    same-trace : s .trace ≡ r .trace
+    few : length (r .events) ≤ 32
+
+  always-finish : (s : LaneState) → Always (Answered s) (finish p l s)
+  unfolding finish proper
+  always-finish s =
+      bind (always-agreed 6 _ tt) (λ value _.
+      bind (always-accessAgreed 7 (memoryOf p l s) 4 _ tt) (λ count _.
+      bind (always-require 12 _ tt) (λ u t.
+      bind (always-events (memoryOf p l s) 0 [] (s .locations)) (λ es e. gives (record {
+        same-steps = refl;
+        same-trace = refl;
+        few = bounded count (length (s .locations)) (length es) t e;
+      })))))
+    where
+      bounded : (count n m : ℕ) → T (leb count 32 && eqb count n) → m ≡ 0 + n → m ≤ 32
+      bounded count n m t e =
+          omega (arith, leb→le count 32 (both-left (leb count 32) (eqb count n) t), eqb→eq count n (both-right (leb count 32) (eqb count n) t))
+
+  -- what holds where a run ends: of its trace, its steps, and an answer at stop
+  abbrev Ends : ℕ → Ended → Type 0
+  Ends most e =
+      Traced (e .state)
+      × (e .state .steps ≤ most)
+      × Always (λ r. Kept (e .state) × Answered (e .state) r × (e .state .pc ≡ stop)) (e .answer)
+
+  ends-choose : (most : ℕ) (b : Bool) (f g : Unit {0} → Ended) → (b ≡ true → Ends most (f tt)) → (b ≡ false → Ends most (g tt))
+      → Ends most (choose b f g)
+  unfolding choose
+  ends-choose most true f g x y = x refl
+  ends-choose most false f g x y = y refl
+
+  ends-on : {P : LaneState → Type 0} (most : ℕ) (s : LaneState) {m : Tested LaneState} (f : LaneState → Ended)
+      → Traced s → s .steps ≤ most → Always P m → ((t : LaneState) → P t → Ends most (f t)) → Ends most (on s m f)
+  unfolding on
+  ends-on most s f k b (stops r t) h = (k, b, stops r t)
+  ends-on most s f k b (gives x) h = h _ x
+
+  ends-stop : (most : ℕ) (s : LaneState) → Kept s → s .steps ≤ most → eqb (s .pc) stop ≡ true
+      → Ends most (record { state = s; answer = finish p l s })
+  ends-stop most s k b e = (k .traced, b, weaken (always-finish s) (λ r a. (k, a, eqb-true _ _ e)))
+
+  ends-run : (n most : ℕ) (s : LaneState) → Kept s → s .steps + n ≤ most → Ends most (run p l n s)
+  unfolding run refuse proper
+  ends-run zero most s k b =
+      ends-choose most (eqb (s .pc) stop) _ _ (ends-stop most s k (omega arith)) (λ e. (k .traced, omega arith, stops _ tt))
+  ends-run (suc n) most s k b =
+      ends-choose most (eqb (s .pc) stop) _ _ (ends-stop most s k (omega arith))
+      (λ e. ends-on most s _ (k .traced) (omega arith) (always-step s k) (λ t h. ends-run n most t (h .0) (omega (arith, h .1))))
+
+  begin-traced : Traced (begin p l)
+  unfolding begin
+  begin-traced = record { counted = refl; entered = omega arith; chained = refl; words = λ x. tt }
+
+  begin-kept : Sized → p .symbols .entry < 2 ^ 32 → 4 ≤ l .rows → Kept (begin p l)
+  unfolding begin
+  begin-kept h small rows = record {
+    fits = h;
+    small = small;
+    traced = begin-traced;
+    stored = record {
+      least = omega (arith, four (constant (lanes p l) stopWord));
+      most = omega (arith, four (constant (lanes p l) stopWord));
+      distinct = distinct-write 4 stop _ (omega arith) (omega arith) (distinct-none _ _);
+    };
+  }
+
+  always-start : Always (λ s. Kept s × (s ≡ begin p l)) (start p l)
+  unfolding start proper
+  always-start =
+      bind (always-require 1 _ tt) (λ u sized.
+      bind (always-require 2 _ tt) (λ v placed.
+      bind (always-require 13 _ tt) (λ w rows. gives (begin-kept (fit sized) (entry-fits placed) (leb→le _ _ rows), refl))))
+
+  ends-laneRun : (limit : ℕ) → Ends limit (laneRun p l limit)
+  unfolding laneRun begin
+  ends-laneRun limit =
+      ends-on limit _ _ begin-traced (omega arith) always-start (λ s h. ends-run limit limit s (h .0) (rw (h .1) (omega arith)))
+
+  pub completed : (limit : ℕ) → Completed p l limit ((laneRun p l limit) .state)
+  completed limit = shown _ (ends-laneRun limit .0) (ends-laneRun limit .1)
+    where
+      shown : (s : LaneState) → Traced s → s .steps ≤ limit → Completed p l limit s
+      shown s t b = record { counted = t .counted; lent = t .entered; bound = b; chain = t .chained; words = t .words }
+
+  pub accepted : (limit : ℕ) (r : Result) → (laneRun p l limit) .answer ≡ passed r → Accepted l ((laneRun p l limit) .state) r
+  accepted limit r e = shown _ (passes (rw e at (ends-laneRun limit .2)))
+    where
+      shown : (s : LaneState) → Kept s × Answered s r × (s .pc ≡ stop) → Accepted l s r
+      shown s (k, a, at) = record {
+        steps = a .same-steps;
+        trace = a .same-trace;
+        arrived = at;
+        events = a .few;
+        written-least = k .stored .least;
+        written-most = room (k .fits) (k .stored .distinct);
+        lent = k .stored .most;
+      }
+
+  pub refused-proper : (limit : ℕ) (r : Refusal) → (laneRun p l limit) .answer ≡ refused r → T (proper r)
+  refused-proper limit r e = refuses (rw e at (ends-laneRun limit .2))
+
+-- x10 is the input: at entry = stop the return value is not uniform
+uneven : (image : List ℕ) (symbols : Rv32SymbolLayout) (rows entries : ℕ)
+    → finish (standing image symbols) (setup rows entries) (begin (standing image symbols) (setup rows entries)) ≡ refuse 7 6
+unfolding finish begin standing setup standingCore fill atStart choose reg agreed uniform every domain inputs refuse _>>=_ lanes constant unknown
+uneven image symbols rows entries = refl
+
+always-on : {P : LaneState → Type 0} {Q : Result → Type 0} (s : LaneState) {m : Tested LaneState} (f : LaneState → Ended)
+    → Always P m → ((t : LaneState) → P t → Always Q (f t .answer)) → Always Q (on s m f .answer)
+unfolding on
+always-on s f (stops r t) h = stops r t
+always-on s f (gives k) h = h _ k
+
+refused-at-stop : (image : List ℕ) (symbols : Rv32SymbolLayout) (rows entries : ℕ) → eqb (symbols .entry) stop ≡ true
+    → Always (λ _. ⊥) (standingLaneRun image symbols rows entries .answer)
+unfolding standingLaneRun laneRun begin standing refuse proper
+refused-at-stop image symbols rows entries b =
+    always-on _ _ (always-start p l) (λ t h. rw (h .1, run-stop p l maxSteps (begin p l) b, uneven image symbols rows entries) (stops _ tt))
+  where
+    p : Program
+    p = standing image symbols
+
+    l : Setup
+    l = setup rows entries
+
+pub takes-step : TakesStep
+unfolding standingLaneRun standing
+takes-step image symbols rows entries r e = go (eqb (symbols .entry) stop) refl
+  where
+    p : Program
+    p = standing image symbols
+
+    l : Setup
+    l = setup rows entries
+
+    positive : (t : List PredicateControlStep) {to : ℕ} → eqb (symbols .entry) stop ≡ false → to ≡ stop → Chain (symbols .entry) t to → 1 ≤ length t
+    positive [] b a c = absurd (eqb-false _ _ b (c ∙ a))
+    positive (d ∷ t) b a c = omega arith
+
+    go : (b : Bool) → eqb (symbols .entry) stop ≡ b → 1 ≤ r .steps
+    go true b = absurd (passes (rw e at (refused-at-stop image symbols rows entries b)))
+    go false b =
+        let a : Accepted l (standingLaneRun image symbols rows entries .state) r = accepted p l maxSteps r e in
+        let c : Completed p l maxSteps (standingLaneRun image symbols rows entries .state) = completed p l maxSteps in
+        omega (arith, positive (standingLaneRun image symbols rows entries .state .trace) b (a .arrived) (c .chain), c .counted, a .steps)

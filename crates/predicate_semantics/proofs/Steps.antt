@@ -1,0 +1,186 @@
+-- The lane run simulates each scalar run: each part of a step, the step, n steps, and the whole run.
+use mathlib.Core.Path.{_≡_, refl}
+use mathlib.Core.Option.{some}
+use mathlib.Core.List.{List, [], _∷_}
+use Prim.Native.Nat.{ℕ, zero, suc, _+_, _%_}
+use lib.Dec.{leb, eqb}
+use lib.ListN.{getElem?, length}
+use Rattle.riscv32imc.specs.Arithmetic.{add, target}
+use Rattle.riscv32imc.specs.Constants.{imageBase}
+use Rattle.riscv_decode.specs.declared.Fetched.{Fetched}
+use Rattle.lane_word.specs.declared.LaneWord.{LaneWord}
+use Rattle.lane_word.specs.Word.{constant}
+use Rattle.predicate_semantics.specs.declared.CompiledMmioEvent.{CompiledMmioEvent}
+use Rattle.predicate_semantics.specs.Meaning.{Operand, register, immediate, Meaning, nothing, literal, compute, jump, jumpTo, branch, load, store}
+use Rattle.predicate_semantics.specs.Program.{Program, memoryEnd, stop, stopWord, stackPointer}
+use Rattle.predicate_semantics.specs.State.{Effect, goes, sets, stores, Looked, advance, apply}
+use Rattle.predicate_semantics.specs.Memory.{Written, LaneBytes, laneBytes}
+use Rattle.predicate_semantics.specs.Memory as Memory
+use Rattle.predicate_semantics.specs.Refusal.{refuse, require}
+use Rattle.predicate_semantics.specs.Lane.{LaneState, Setup, lanes, agreed, reg, operand}
+use Rattle.predicate_semantics.specs.Lane as Lane
+use Rattle.predicate_semantics.specs.Scalar.{Bytes, ScalarState}
+use Rattle.predicate_semantics.specs.Scalar as Scalar
+use Rattle.predicate_semantics.proofs.Sim.{Sim, stops, agrees, bind, bind-same, bind-lane, bind-value, bind-into, sim-require, sim-found, sim-choose, sim-ended, bind-ended}
+use Rattle.predicate_semantics.proofs.Values.{At, at-unary, at-binary, at-unknown, sim-uniform, Regs, regs-at, regs-assign, regs-fill, at-start, Mem, at-constant, at-domain, at-read, mem-write, mem-initial}
+
+-- the scalar state with a lane state's progress
+abbrev pub view : LaneState → List ℕ → Bytes → ScalarState
+view s rs m = record { pc = s .pc; registers = rs; memory = m; steps = s .steps; trace = s .trace; locations = s .locations }
+
+pub sim-inside : (a n : ℕ) → Sim _≡_ (Lane.inside a n) (Scalar.inside a n)
+unfolding Lane.inside Scalar.inside
+sim-inside a n = bind-same (sim-require 4 (leb imageBase a)) (λ _. sim-require 5 (leb (a + n) memoryEnd))
+
+module _ (image inputs : List ℕ) (k : ℕ) where
+  -- a scalar state that goes with a lane state, as lane k has it
+  pub data Related : LaneState → ScalarState → Type 0 where
+    related : {s : LaneState} {rs : List ℕ} {m : Bytes} → Regs (length inputs) k (s .registers) rs → Mem image inputs k (s .memory) m
+        → Related s (view s rs m)
+
+module _ (n k : ℕ) where
+  pub data Same : Effect LaneWord → Effect ℕ → Type 0 where
+    same-goes : (next : ℕ) → Same (goes next) (goes next)
+    same-sets : (rd : ℕ) {w : LaneWord} {v : ℕ} (next : ℕ) → At n k w v → Same (sets rd w next) (sets rd v next)
+    same-stores : (a b : ℕ) {w : LaneWord} {v : ℕ} (next : ℕ) → At n k w v → Same (stores a b w next) (stores a b v next)
+
+  pub data Seen : Looked LaneWord → Looked ℕ → Type 0 where
+    seen : (f : Fetched) {e : Effect LaneWord} {d : Effect ℕ} → Same e d → Seen (record { fetched = f; effect = e }) (record { fetched = f; effect = d })
+
+module _ (p : Program) (l : Setup) (k input : ℕ) (here : getElem? (l .inputs) k ≡ some input) where
+  -- the one place where a uniform test meets its lane
+  pub sim-agreed : (role : ℕ) {w : LaneWord} {v : ℕ} → At (length (l .inputs)) k w v → Sim _≡_ (agreed (l .inputs) role w) (some v)
+  unfolding agreed
+  sim-agreed role h = sim-uniform role h
+
+  module _ (ws : List Written) (m : Bytes) (mem : Mem (p .image) (l .inputs) k ws m) where
+    abbrev bytes : LaneBytes
+    bytes = laneBytes (p .image) (length (l .inputs)) ws
+
+    pub sim-access : (n a : ℕ) → Sim (At (length (l .inputs)) k) (Lane.access (l .inputs) bytes n a) (Scalar.access m n a)
+    unfolding Lane.access Scalar.access
+    sim-access n a = bind-same (sim-inside a n) (λ _. agrees (at-read (p .image) (l .inputs) k input here ws m mem n a))
+
+    pub sim-accessAgreed : (role n a : ℕ) → Sim _≡_ (Lane.accessAgreed (l .inputs) role bytes n a) (Scalar.access m n a)
+    unfolding Lane.accessAgreed
+    sim-accessAgreed role n a = bind-into (sim-access n a) (λ w v h. sim-agreed role h)
+
+    pub sim-fetchWord : (pc : ℕ) → Sim _≡_ (Lane.fetchWord (l .inputs) (p .core) bytes pc) (Scalar.fetchWord p m pc)
+    unfolding Lane.fetchWord Scalar.fetchWord
+    sim-fetchWord pc = bind-same (sim-accessAgreed 1 2 pc) (λ half.
+        sim-choose (eqb (half % 4) 3)
+        (λ _. bind-same (sim-accessAgreed 1 4 pc) (λ word. agrees refl))
+        (λ _. bind-same (sim-found 8 (p .core .expand half)) (λ word. agrees refl)))
+
+    sim-events : (i : ℕ) (done : List CompiledMmioEvent) (ls : List ℕ)
+        → Sim _≡_ (Lane.events p l bytes i done ls) (Scalar.events p m i done ls)
+    unfolding Lane.events Scalar.events
+    sim-events i done [] = agrees refl
+    sim-events i done (x ∷ ls) =
+        bind-same (sim-accessAgreed 8 4 _) (λ o.
+        bind-same (sim-accessAgreed 9 4 _) (λ f.
+        bind-same (sim-accessAgreed 10 4 _) (λ v. sim-events (suc i) _ ls)))
+
+  module _ (s : LaneState) (rs : List ℕ) (m : Bytes)
+      (regs : Regs (length (l .inputs)) k (s .registers) rs) (mem : Mem (p .image) (l .inputs) k (s .memory) m) where
+    pub sim-fetch : Sim _≡_ (Lane.fetch (l .inputs) (p .core) (Lane.memoryOf p l s) (s .steps) (s .pc)) (Scalar.fetch p (view s rs m))
+    unfolding Lane.fetch Scalar.fetch Lane.memoryOf lanes
+    sim-fetch =
+        bind-same (sim-fetchWord (s .memory) m mem (s .pc)) (λ w.
+        bind-same (sim-found 9 _) (λ operation. agrees refl))
+
+    pub at-reg : (i : ℕ) → At (length (l .inputs)) k (reg p l s i) (Scalar.reg (view s rs m) i)
+    unfolding reg Scalar.reg lanes
+    at-reg i = regs-at regs i
+
+    at-operand : (o : Operand) → At (length (l .inputs)) k (operand p l s o) (Scalar.operand (view s rs m) o)
+    unfolding operand Scalar.operand lanes
+    at-operand (register i) = at-reg i
+    at-operand (immediate n) = at-constant (p .image) (l .inputs) k input here n
+
+    pub sim-execute : (next : ℕ) (d : Meaning)
+        → Sim (Same (length (l .inputs)) k) (Lane.execute p l s next d) (Scalar.execute p (view s rs m) next d)
+    unfolding Lane.execute Scalar.execute Lane.memoryOf lanes
+    sim-execute next nothing = agrees (same-goes next)
+    sim-execute next (literal rd v) = agrees (same-sets rd next (at-constant (p .image) (l .inputs) k input here v))
+    sim-execute next (compute rd f a b) = agrees (same-sets rd next (at-binary f (at-reg a) (at-operand b)))
+    sim-execute next (jump rd to) = agrees (same-sets rd to (at-constant (p .image) (l .inputs) k input here next))
+    sim-execute next (jumpTo rd a offset) =
+        bind-value _ (sim-agreed 2 (at-unary (λ v. target v offset) (at-reg a)))
+        (bind-same (sim-require 10 _) (λ _. agrees (same-sets rd _ (at-constant (p .image) (l .inputs) k input here next))))
+    sim-execute next (branch f a b to) =
+        bind-value _ (sim-agreed 5 (at-binary f (at-reg a) (at-reg b))) (agrees (same-goes _))
+    sim-execute next (load rd a offset n extend) =
+        bind-value _ (sim-agreed 3 (at-unary (λ v. add v offset) (at-reg a)))
+        (bind (sim-access (s .memory) m mem n _) (λ w v h. agrees (same-sets rd next (at-unary extend h))))
+    sim-execute next (store a b offset n) =
+        bind-value _ (sim-agreed 4 (at-unary (λ v. add v offset) (at-reg a)))
+        (bind-same (sim-inside _ n) (λ _.
+        bind-same (sim-require 11 _) (λ _.
+        bind-lane (require 13 _) (λ _. agrees (same-stores _ n next (at-reg b))))))
+
+    pub sim-look : Sim (Seen (length (l .inputs)) k) (Lane.look p l s) (Scalar.look p (view s rs m))
+    unfolding Lane.look Scalar.look
+    sim-look =
+        bind-same sim-fetch (λ fetched.
+        bind (sim-execute _ _) (λ e d h. agrees (seen fetched h)))
+
+    apply-related : (c : ℕ) (f : Fetched) {e : Effect LaneWord} {d : Effect ℕ} → Same (length (l .inputs)) k e d
+        → Related (p .image) (l .inputs) k (apply Memory.write c s f e) (apply Scalar.write c (view s rs m) f d)
+    unfolding apply advance
+    apply-related c f (same-goes n) = related regs mem
+    apply-related c f (same-sets rd n h) = related (regs-assign regs rd h) mem
+    apply-related c f (same-stores a z n h) = related regs (mem-write (p .image) (l .inputs) k input here z _ _ mem a _ _ h)
+
+    seen-related : (c : ℕ) {a : Looked LaneWord} {b : Looked ℕ} → Seen (length (l .inputs)) k a b
+        → Related (p .image) (l .inputs) k (apply Memory.write c s (a .fetched) (a .effect)) (apply Scalar.write c (view s rs m) (b .fetched) (b .effect))
+    seen-related c (seen f h) = apply-related c f h
+
+    pub sim-step : Sim (Related (p .image) (l .inputs) k) (Lane.step p l s) (Scalar.step p (view s rs m))
+    unfolding Lane.step Scalar.step
+    sim-step = bind sim-look (λ a b h. bind-lane (require 14 _) (λ _. agrees (seen-related _ h)))
+
+    pub sim-finish : Sim _≡_ (Lane.finish p l s) (Scalar.finish p (view s rs m))
+    unfolding Lane.finish Scalar.finish Lane.memoryOf lanes
+    sim-finish =
+        bind-value _ (sim-agreed 6 (at-reg 10))
+        (bind-same (sim-accessAgreed (s .memory) m mem 7 4 _) (λ count.
+        bind-same (sim-require 12 _) (λ _.
+        bind-same (sim-events (s .memory) m mem _ _ _) (λ es. agrees refl))))
+
+  -- n completed steps of the lane run are n completed steps of the scalar run
+  pub sim-after : (n : ℕ) {s : LaneState} {t : ScalarState} → Related (p .image) (l .inputs) k s t
+      → Sim (Related (p .image) (l .inputs) k) (Lane.after p l n s) (Scalar.after p n t)
+  unfolding Lane.after Scalar.after refuse
+  sim-after zero r = agrees r
+  sim-after (suc n) (related {s} {rs} {m} regs mem) =
+      sim-choose (eqb (s .pc) stop) (λ _. stops) (λ _. bind (sim-step s rs m regs mem) (λ a b r. sim-after n r))
+
+  pub sim-run : (n : ℕ) {s : LaneState} {t : ScalarState} → Related (p .image) (l .inputs) k s t
+      → Sim _≡_ ((Lane.run p l n s) .answer) (Scalar.run p n t)
+  unfolding Lane.run Scalar.run refuse
+  sim-run zero (related {s} {rs} {m} regs mem) =
+      sim-ended (eqb (s .pc) stop) _ _ (λ _. sim-finish s rs m regs mem) (λ _. stops)
+  sim-run (suc n) (related {s} {rs} {m} regs mem) =
+      sim-ended (eqb (s .pc) stop) _ _ (λ _. sim-finish s rs m regs mem)
+      (λ _. bind-ended s _ (sim-step s rs m regs mem) (λ a b r. sim-run n r))
+
+  pub sim-start : (others : ℕ → ℕ) → Sim (Related (p .image) (l .inputs) k) (Lane.start p l) (Scalar.start p input others)
+  unfolding Lane.start Scalar.start Lane.begin lanes
+  sim-start others =
+      bind-same (sim-require 1 _) (λ _.
+      bind-same (sim-require 2 _) (λ _.
+      bind-lane (require 13 _) (λ _. agrees (related
+      (regs-fill _ 0 _ _ (at-start _ _ _ _ _ _ _ _ _ _ (whole 0) (whole stop) (whole stackPointer) (at-domain (p .image) (l .inputs) k input here) (λ j. at-unknown _ k _)))
+      (mem-write (p .image) (l .inputs) k input here 4 [] _ (mem-initial (p .image) (l .inputs) k input here) stop _ _ (whole stopWord))))))
+    where
+      whole : (v : ℕ) → At (length (l .inputs)) k (constant (length (l .inputs)) v) v
+      whole v = at-constant (p .image) (l .inputs) k input here v
+
+  pub sim-reached : (n : ℕ) (others : ℕ → ℕ) → Sim (Related (p .image) (l .inputs) k) (Lane.reached p l n) (Scalar.reached p n input others)
+  unfolding Lane.reached Scalar.reached
+  sim-reached n others = bind (sim-start others) (λ s t r. sim-after n r)
+
+  pub sim-laneRun : (limit : ℕ) (others : ℕ → ℕ) → Sim _≡_ ((Lane.laneRun p l limit) .answer) (Scalar.scalarRun p limit input others)
+  unfolding Lane.laneRun Scalar.scalarRun
+  sim-laneRun limit others = bind-ended _ _ (sim-start others) (λ s t r. sim-run limit r)

@@ -1,0 +1,168 @@
+-- What lane k of a lane word, of the registers and of memory says of one scalar run.
+use mathlib.Core.Path.{_≡_, refl, sym, _∙_, ap, subst}
+use mathlib.Core.Bool.{Bool, true, false, false≢true}
+use mathlib.Core.Option.{some}
+use mathlib.Core.List.{List, [], _∷_}
+use Prim.Native.Nat.{ℕ, zero, suc, _/_, _%_}
+use lib.Dec.{T, eqb}
+use lib.ListN.{getElem?, getD, length, set, length-map, length-replicate}
+use borrow.Author.Tests.{eqb-true, eqb-false}
+use Rattle.riscv32imc.specs.Bits.{join}
+use Rattle.lane_word.specs.declared.LaneWord.{LaneWord}
+use Rattle.lane_word.specs.Word.{unknown, constant, domain, unary, binary, every}
+use Rattle.predicate_semantics.specs.Choice.{choose}
+use Rattle.predicate_semantics.specs.Program.{initial}
+use Rattle.predicate_semantics.specs.State.{assign, fill, atStart}
+use Rattle.predicate_semantics.specs.Memory.{Written, byteAt, laneBytes}
+use Rattle.predicate_semantics.specs.Memory as Memory
+use Rattle.predicate_semantics.specs.Refusal.{passed, refuse}
+use Rattle.predicate_semantics.specs.Lane.{uniform}
+use Rattle.predicate_semantics.specs.Scalar.{Bytes}
+use Rattle.predicate_semantics.specs.Scalar as Scalar
+use Rattle.predicate_semantics.proofs.Lists.{map-at, zip-at, length-zip, replicate-at, both-left, both-right, every-at}
+use Rattle.predicate_semantics.proofs.Sim.{Sim, stops, agrees}
+
+-- w has n lanes, and its lane k is v, if it is known
+pub record At (n k : ℕ) (w : LaneWord) (v : ℕ) : Type 0 where
+  pub size : length (w .values) ≡ n
+  pub value : T (w .known) → getElem? (w .values) k ≡ some v
+
+pub at-unary : {n k : ℕ} (f : ℕ → ℕ) {w : LaneWord} {v : ℕ} → At n k w v → At n k (unary f w) (f v)
+unfolding unary
+at-unary {k = k} f {w} h = record {
+  size = length-map (w .values) f ∙ h .size;
+  value = λ t. map-at f (w .values) k (h .value t);
+}
+
+pub at-binary : {n k : ℕ} (f : ℕ → ℕ → ℕ) {a b : LaneWord} {u v : ℕ} → At n k a u → At n k b v → At n k (binary f a b) (f u v)
+unfolding binary
+at-binary {k = k} f {a} {b} h g = record {
+  size = length-zip f (a .values) (b .values) (h .size) (g .size);
+  value = λ t.
+      zip-at f (a .values) (b .values) k (h .value (both-left (a .known) (b .known) t)) (g .value (both-right (a .known) (b .known) t));
+}
+
+pub at-unknown : (n k v : ℕ) → At n k (unknown n) v
+unfolding unknown
+at-unknown n k v = record { size = length-replicate n 0; value = λ t. absurd t }
+
+pub at-choose : {n k : ℕ} (b : Bool) (f g : Unit {0} → LaneWord) (u v : Unit {0} → ℕ)
+    → At n k (f tt) (u tt) → At n k (g tt) (v tt) → At n k (choose b f g) (choose b u v)
+unfolding choose
+at-choose true f g u v x y = x
+at-choose false f g u v x y = y
+
+-- a word that passes the test has lane k's value
+pub sim-uniform : {n k : ℕ} (role : ℕ) {w : LaneWord} {v : ℕ} → At n k w v → Sim _≡_ (uniform role w) (some v)
+unfolding uniform choose refuse
+sim-uniform {k = k} role {w} {v} h =
+    go (w .known) (every (getD (w .values) 0 0) (w .values)) (h .value) (λ t e. every-at (getD (w .values) 0 0) (w .values) k t e)
+  where
+    go : (b c : Bool) → (T b → getElem? (w .values) k ≡ some v) → (T c → getElem? (w .values) k ≡ some v → getD (w .values) 0 0 ≡ v)
+        → Sim _≡_ (choose b (λ _. choose c (λ _. passed (getD (w .values) 0 0)) (λ _. refuse 7 role)) (λ _. refuse 6 role)) (some v)
+    go true true x y = agrees (y tt (x tt))
+    go true false x y = stops
+    go false c x y = stops
+
+-- registers, as lane k has them
+pub data Regs (n k : ℕ) : List LaneWord → List ℕ → Type 0 where
+  empty : Regs n k [] []
+  more : {w : LaneWord} {v : ℕ} {ws : List LaneWord} {vs : List ℕ} → At n k w v → Regs n k ws vs → Regs n k (w ∷ ws) (v ∷ vs)
+
+pub regs-at : {n k : ℕ} {ws : List LaneWord} {vs : List ℕ} → Regs n k ws vs → (i : ℕ) → At n k (getD ws i (unknown n)) (getD vs i 0)
+regs-at {n} {k} empty i = at-unknown n k 0
+regs-at (more h r) zero = h
+regs-at (more h r) (suc i) = regs-at r i
+
+regs-set : {n k : ℕ} {ws : List LaneWord} {vs : List ℕ} → Regs n k ws vs → (i : ℕ) {w : LaneWord} {v : ℕ} → At n k w v
+    → Regs n k (set ws i w) (set vs i v)
+regs-set empty i x = empty
+regs-set (more h r) zero x = more x r
+regs-set (more h r) (suc i) x = more h (regs-set r i x)
+
+pub regs-assign : {n k : ℕ} {ws : List LaneWord} {vs : List ℕ} → Regs n k ws vs → (i : ℕ) {w : LaneWord} {v : ℕ} → At n k w v
+    → Regs n k (assign ws i w) (assign vs i v)
+unfolding assign
+regs-assign r zero x = r
+regs-assign r (suc i) x = regs-set r (suc i) x
+
+pub regs-fill : {n k : ℕ} (c i : ℕ) (f : ℕ → LaneWord) (g : ℕ → ℕ) → ((j : ℕ) → At n k (f j) (g j)) → Regs n k (fill c i f) (fill c i g)
+unfolding fill
+regs-fill zero i f g h = empty
+regs-fill (suc c) i f g h = more (h i) (regs-fill c (suc i) f g h)
+
+pub at-start : {n k : ℕ} (a b c d : LaneWord) (o : ℕ → LaneWord) (t u v w : ℕ) (q : ℕ → ℕ)
+    → At n k a t → At n k b u → At n k c v → At n k d w → ((j : ℕ) → At n k (o j) (q j))
+    → (i : ℕ) → At n k (atStart a b c d o i) (atStart t u v w q i)
+unfolding atStart
+at-start a b c d o t u v w q ha hb hc hd ho i =
+    at-choose (eqb i 0) _ _ _ _ ha
+    (at-choose (eqb i 1) _ _ _ _ hb
+    (at-choose (eqb i 2) _ _ _ _ hc
+    (at-choose (eqb i 10) _ _ _ _ hd (ho i))))
+
+-- the byte at an address after a byte has been put
+pub byteAt-put : (other : LaneWord) (x a : ℕ) (b : LaneWord) (ws : List Written)
+    → byteAt other x (Memory.put a b ws) ≡ choose (eqb a x) (λ _. b) (λ _. byteAt other x ws)
+unfolding byteAt Memory.put choose
+byteAt-put other x a b [] = refl
+byteAt-put other x a b (w ∷ ws) = go (eqb (w .address) a) refl (byteAt-put other x a b ws)
+  where
+    here : (c d : Bool) → c ≡ d
+        → choose d (λ _. b) (λ _. byteAt other x ws) ≡ choose d (λ _. b) (λ _. choose c (λ _. w .byte) (λ _. byteAt other x ws))
+    here true true e = refl
+    here true false e = absurd (false≢true (sym e))
+    here false true e = refl
+    here false false e = refl
+
+    apart : (c d : Bool) → eqb (w .address) a ≡ false → eqb (w .address) x ≡ c → eqb a x ≡ d
+        → choose c (λ _. w .byte) (λ _. choose d (λ _. b) (λ _. byteAt other x ws)) ≡ choose d (λ _. b) (λ _. choose c (λ _. w .byte) (λ _. byteAt other x ws))
+    apart true true n e f = absurd (eqb-false (w .address) a n (eqb-true (w .address) x e ∙ sym (eqb-true a x f)))
+    apart true false n e f = refl
+    apart false true n e f = refl
+    apart false false n e f = refl
+
+    go : (c : Bool) → eqb (w .address) a ≡ c → byteAt other x (Memory.put a b ws) ≡ choose (eqb a x) (λ _. b) (λ _. byteAt other x ws)
+        → byteAt other x (choose c (λ _. record { address = a; byte = b } ∷ ws) (λ _. w ∷ Memory.put a b ws))
+        ≡ choose (eqb a x) (λ _. b) (λ _. choose (eqb (w .address) x) (λ _. w .byte) (λ _. byteAt other x ws))
+    go true e ih = here (eqb (w .address) x) (eqb a x) (ap (λ (z : ℕ). eqb z x) (eqb-true (w .address) a e))
+    go false e ih =
+        ap (λ (y : LaneWord). choose (eqb (w .address) x) (λ _. w .byte) (λ _. y)) ih ∙ apart (eqb (w .address) x) (eqb a x) e refl refl
+
+module _ (image inputs : List ℕ) (k : ℕ) where
+  -- memory, as lane k has it
+  abbrev pub Mem : List Written → Bytes → Type 0
+  Mem ws m = (a : ℕ) → At (length inputs) k (laneBytes image (length inputs) ws a) (m a)
+
+  module _ (input : ℕ) (here : getElem? inputs k ≡ some input) where
+    pub at-constant : (v : ℕ) → At (length inputs) k (constant (length inputs) v) v
+    unfolding constant
+    at-constant v = record { size = length-replicate (length inputs) v; value = λ t. replicate-at inputs v k here }
+
+    pub at-domain : At (length inputs) k (domain inputs) input
+    unfolding domain
+    at-domain = record { size = refl; value = λ t. here }
+
+    pub at-read : (ws : List Written) (m : Bytes) → Mem ws m
+        → (n a : ℕ) → At (length inputs) k (Memory.read (length inputs) (laneBytes image (length inputs) ws) n a) (Scalar.read m n a)
+    unfolding Memory.read Scalar.read
+    at-read ws m h zero a = at-constant 0
+    at-read ws m h (suc n) a = at-binary join (h a) (at-read ws m h n (suc a))
+
+    mem-put : (ws : List Written) (m : Bytes) → Mem ws m → (a : ℕ) (b : LaneWord) (c : ℕ) → At (length inputs) k b c
+        → Mem (Memory.put a b ws) (Scalar.put m a c)
+    unfolding Scalar.put laneBytes
+    mem-put ws m h a b c g x =
+        subst (λ (w : LaneWord). At (length inputs) k w (choose (eqb a x) (λ _. c) (λ _. m x))) (sym (byteAt-put _ x a b ws))
+        (at-choose (eqb a x) _ _ _ _ g (h x))
+
+    pub mem-write : (n : ℕ) (ws : List Written) (m : Bytes) → Mem ws m → (a : ℕ) (w : LaneWord) (v : ℕ) → At (length inputs) k w v
+        → Mem (Memory.write ws n a w) (Scalar.write m n a v)
+    unfolding Memory.write Scalar.write
+    mem-write zero ws m h a w v g = h
+    mem-write (suc n) ws m h a w v g =
+        mem-write n _ _ (mem-put ws m h a _ _ (at-unary (λ v. v % 256) g)) (suc a) _ _ (at-unary (λ v. v / 256) g)
+
+    pub mem-initial : Mem [] (initial image)
+    unfolding byteAt laneBytes
+    mem-initial a = at-constant (initial image a)

@@ -1,0 +1,156 @@
+-- Document 01's cases marked * ("Threads on both sides of an edge"), its slipped threads and the edges of lent space, as one table.
+use mathlib.Core.Path.{_≡_}
+use mathlib.Core.Bool.{Bool, true, false, _&&_}
+use mathlib.Core.Option.{some, Option·map}
+use mathlib.Core.List.{List, [], _∷_, _++_}
+use Prim.Native.Nat.{ℕ, _/_, _%_}
+use lib.Dec.{eqb}
+use Rattle.riscv32imc.specs.Constants.{imageBase}
+use Rattle.predicate_semantics.specs.declared.PredicateTransducerExecution.{PredicateTransducerExecution}
+use Rattle.predicate_semantics.specs.declared.Rv32SymbolLayout.{Rv32SymbolLayout}
+use Rattle.predicate_semantics.specs.Program.{stop}
+use Rattle.predicate_semantics.specs.State.{Result}
+use Rattle.predicate_semantics.specs.Refusal.{Tested, passed, refused}
+use Rattle.predicate_semantics.specs.Lane.{Ended}
+use Rattle.predicate_semantics.specs.Standing.{standingLaneRun, standingScalarRun}
+
+-- what a run gives
+pub data Outcome : Type 0 where
+  -- return value, steps
+  accepts : ℕ → ℕ → Outcome
+  -- number, role, completed steps
+  refuses : ℕ → ℕ → ℕ → Outcome
+
+-- an image, its entry, what is lent, and what the run then gives
+pub record Case : Type 0 where
+  pub image : List ℕ
+  pub entry : ℕ
+  pub rows : ℕ
+  pub entries : ℕ
+  pub outcome : Outcome
+
+-- the event count and the events where document 01's example has them
+unfoldable pub symbols : ℕ → Rv32SymbolLayout
+symbols entry = record { entry = entry; «event_count» = 0x80001000; events = 0x80001004 }
+
+-- the answer, with the steps that the run completed, is the outcome
+unfoldable pub meets : Outcome → ℕ → Tested Result → Bool
+meets (accepts value steps) completed (passed r) = eqb (r .returnValue) value && eqb (r .steps) steps
+meets (accepts value steps) completed (refused r) = false
+meets (refuses number role steps) completed (passed r) = false
+meets (refuses number role steps) completed (refused r) =
+    eqb (r .number) number && eqb (r .role) role && eqb completed steps
+
+-- the run of a case gives its outcome
+unfoldable pub holds : Case → Bool
+holds c =
+    let e : Ended = standingLaneRun (c .image) (symbols (c .entry)) (c .rows) (c .entries) in
+    meets (c .outcome) (e .state .steps) (e .answer)
+
+-- every case of a table does
+unfoldable pub allHold : List Case → Bool
+allHold [] = true
+allHold (c ∷ cs) = holds c && allHold cs
+
+-- with what the program `lane-run` lends, from the image's first byte
+unfoldable pub plain : List ℕ → Outcome → Case
+plain image outcome = record { image = image; entry = imageBase; rows = 200; entries = 2048; outcome = outcome }
+
+-- the bytes of a word, and of a halfword
+unfoldable pub word : ℕ → List ℕ
+word w = w % 256 ∷ w / 256 % 256 ∷ w / 65536 % 256 ∷ w / 16777216 % 256 ∷ []
+
+unfoldable pub half : ℕ → List ℕ
+half h = h % 256 ∷ h / 256 % 256 ∷ []
+
+-- C.LI x10, 1 and C.JR x1
+unfoldable pub return1 : List ℕ
+return1 = half 0x4505 ++ half 0x8082
+
+-- the table
+unfoldable pub cases : List Case
+cases =
+    -- * Entry = stop: 7, role 6, 0 steps
+    record { image = 0x82 ∷ 0x80 ∷ []; entry = stop; rows = 200; entries = 2048; outcome = refuses 7 6 0 }
+    -- so too with no trace lent
+    ∷ record { image = 0x82 ∷ 0x80 ∷ []; entry = stop; rows = 200; entries = 0; outcome = refuses 7 6 0 }
+    -- * Image 82 80: 7, role 6, 1 step
+    ∷ plain (0x82 ∷ 0x80 ∷ []) (refuses 7 6 1)
+    -- * 2E 85 82 80 (x10 from x11): 6, role 6; the slip of calling unknown zeros equal accepts it
+    ∷ plain (0x2E ∷ 0x85 ∷ 0x82 ∷ 0x80 ∷ []) (refuses 6 6 2)
+    -- * AD 8D 2E 85 82 80 (x11 XOR itself first): 6
+    ∷ plain (0xAD ∷ 0x8D ∷ 0x2E ∷ 0x85 ∷ 0x82 ∷ 0x80 ∷ []) (refuses 6 6 3)
+    -- * 13 35 65 00 82 80 (SLTIU 6): return 0
+    ∷ plain (0x13 ∷ 0x35 ∷ 0x65 ∷ 0x00 ∷ 0x82 ∷ 0x80 ∷ []) (accepts 0 2)
+    -- * with 7: 7, role 6
+    ∷ plain (0x13 ∷ 0x35 ∷ 0x75 ∷ 0x00 ∷ 0x82 ∷ 0x80 ∷ []) (refuses 7 6 2)
+    -- * LW at 801FFFFC passes (LW x10, 12(x2); C.JR x1)
+    ∷ plain (word 0x00C12503 ++ half 0x8082) (accepts 0x00100073 2)
+    -- * at 801FFFFD: 5 (LW x10, 13(x2))
+    ∷ plain (word 0x00D12503 ++ half 0x8082) (refuses 5 0 0)
+    -- * at 7FFFFFFF: 4 (LUI x11, 80000; LW x10, -1(x11))
+    ∷ plain (word 0x800005B7 ++ word 0xFFF5A503 ++ half 0x8082) (refuses 4 0 1)
+    -- * SB at the image's end, 8000000C, passes (LUI x11, 80000; SB x0, 12(x11))
+    ∷ plain (word 0x800005B7 ++ word 0x00058623 ++ return1) (accepts 1 4)
+    -- * one lower: 11
+    ∷ plain (word 0x800005B7 ++ word 0x000585A3 ++ return1) (refuses 11 0 1)
+    -- * Four rows and a store only to stop: passes (SW x0, 12(x2))
+    ∷ record { image = word 0x00012623 ++ return1; entry = imageBase; rows = 4; entries = 2048; outcome = accepts 1 3 }
+    -- a row short for a store elsewhere (SW x0, 8(x2)): 13; under four rows: 13 before any step, also at stop
+    ∷ record { image = word 0x00012423 ++ return1; entry = imageBase; rows = 7; entries = 2048; outcome = refuses 13 0 0 }
+    ∷ record { image = return1; entry = stop; rows = 3; entries = 2048; outcome = refuses 13 0 0 }
+    -- a trace entry short: 14; a word without a row comes before it: 9 (EBREAK)
+    ∷ record { image = return1; entry = imageBase; rows = 200; entries = 1; outcome = refuses 14 0 1 }
+    ∷ record { image = word 0x00100073; entry = imageBase; rows = 200; entries = 0; outcome = refuses 9 0 0 }
+    -- slipped: testing JALR before clearing bit 0 (ANDI x11, x10, 1; C.ADD x11, x1; C.LI x10, 1; C.JR x11)
+    ∷ plain (word 0x00157593 ++ half 0x9586 ++ half 0x4505 ++ half 0x8582) (accepts 1 4)
+    -- slipped: counting SB at the event address (LUI x11, 80001; C.LI x12, 1; SB x12, 0(x11)); SW is counted
+    ∷ plain (word 0x800015B7 ++ half 0x4605 ++ word 0x00C58023 ++ return1) (refuses 12 0 5)
+    ∷ plain (word 0x800015B7 ++ half 0x4605 ++ word 0x00C5A023 ++ return1) (accepts 1 5)
+    ∷ []
+
+-- "AD 8D 2E 85 82 80 ..: 6, though every scalar run gives 0"
+abbrev pub ScalarRunsGiveZero : Type 0
+ScalarRunsGiveZero =
+    (input : ℕ) (others : ℕ → ℕ)
+    → Option·map (λ (r : Result). r .returnValue)
+    (standingScalarRun (0xAD ∷ 0x8D ∷ 0x2E ∷ 0x85 ∷ 0x82 ∷ 0x80 ∷ []) (symbols imageBase) input others)
+    ≡ some 0
+
+-- document 01's example of the program, 05 45 82 80; its trace holds the words after expansion
+unfoldable pub example : Ended
+example = standingLaneRun return1 (symbols imageBase) 200 2048
+
+-- .. its result
+unfoldable pub exampleResult : Result
+exampleResult = record {
+  returnValue = 1;
+  steps = 2;
+  trace =
+      record {
+        «program_counter» = 0x80000000;
+        «instruction_word» = 0x00100513;
+        «instruction_bytes» = 2;
+        «next_program_counter» = 0x80000002;
+      }
+      ∷ record {
+        «program_counter» = 0x80000002;
+        «instruction_word» = 0x00008067;
+        «instruction_bytes» = 2;
+        «next_program_counter» = 0x801FFFFC;
+      }
+      ∷ [];
+  events = [];
+}
+
+-- .. its numbers
+unfoldable pub exampleExecution : PredicateTransducerExecution
+exampleExecution = record {
+  «first_input» = 6;
+  «lane_count» = 250;
+  «return_value» = 1;
+  «symbolic_transitions» = 2;
+  «lane_value_operations» = 500;
+  «sparse_memory_bytes» = 4;
+  «event_count» = 0;
+}

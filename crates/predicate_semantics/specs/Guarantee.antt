@@ -1,0 +1,68 @@
+-- Demand 3: what the lane run promises of each input's scalar run, during the run and whenever it accepts.
+use mathlib.Core.Path.{_≡_}
+use mathlib.Core.Option.{some}
+use mathlib.Core.List.{List}
+use Prim.Native.Nat.{ℕ, _≤_}
+use lib.Dec.{T}
+use lib.ListN.{getElem?}
+use Rattle.lane_word.specs.declared.LaneWord.{LaneWord}
+use Rattle.predicate_semantics.specs.declared.Rv32SymbolLayout.{Rv32SymbolLayout}
+use Rattle.predicate_semantics.specs.Program.{Program}
+use Rattle.predicate_semantics.specs.State.{Result}
+use Rattle.predicate_semantics.specs.Refusal.{passed}
+use Rattle.predicate_semantics.specs.Scalar.{ScalarState, scalarRun}
+use Rattle.predicate_semantics.specs.Scalar as Scalar
+use Rattle.predicate_semantics.specs.Lane.{LaneState, Setup, laneRun}
+use Rattle.predicate_semantics.specs.Lane as Lane
+use Rattle.predicate_semantics.specs.Standing.{standingLaneRun, standingScalarRun}
+
+-- if the lane word is known, its lane k holds v
+abbrev pub Holds : ℕ → LaneWord → ℕ → Type 0
+Holds k w v = T (w .known) → getElem? (w .values) k ≡ some v
+
+module _ (p : Program) (l : Setup) where
+  -- a scalar state is where lane k of a lane state is: the same program counter, steps, trace and locations, and in each register
+  -- and each byte that is known, lane k's value
+  pub record Follows (k : ℕ) (s : LaneState) (t : ScalarState) : Type 0 where
+    pub pc : t .pc ≡ s .pc
+    pub steps : t .steps ≡ s .steps
+    pub trace : t .trace ≡ s .trace
+    pub locations : t .locations ≡ s .locations
+    pub registers : (i : ℕ) → Holds k (Lane.reg p l s i) (Scalar.reg t i)
+    pub memory : (a : ℕ) → Holds k (Lane.memoryOf p l s a) (t .memory a)
+
+  -- After n completed steps of the lane run, the scalar run of each lane's input, whatever the other registers hold at the start,
+  -- has completed n steps too, and is where the lane is.
+  abbrev pub PrefixGuarantee : Type 0
+  PrefixGuarantee =
+      (n : ℕ) (s : LaneState) → Lane.reached p l n ≡ passed s
+      → (k input : ℕ) → getElem? (l .inputs) k ≡ some input
+      → (others : ℕ → ℕ) → (t : ScalarState) × (Scalar.reached p n input others ≡ some t) × Follows k s t
+
+  -- Where the lane run ends once it has started, accepted or refused, the same holds of the steps that it completed.
+  abbrev pub CompletedGuarantee : ℕ → Type 0
+  CompletedGuarantee limit =
+      Lane.start p l ≡ passed (Lane.begin p l)
+      → (k input : ℕ) → getElem? (l .inputs) k ≡ some input
+      → (others : ℕ → ℕ)
+      → (t : ScalarState)
+      × (Scalar.reached p ((laneRun p l limit) .state .steps) input others ≡ some t)
+      × Follows k ((laneRun p l limit) .state) t
+
+  -- Whenever the lane run accepts, the scalar run of each lane's input, whatever the other registers hold at the start,
+  -- reaches stop and answers the same.
+  abbrev pub AcceptanceGuarantee : ℕ → Type 0
+  AcceptanceGuarantee limit =
+      (r : Result) → (laneRun p l limit) .answer ≡ passed r
+      → (k input : ℕ) → getElem? (l .inputs) k ≡ some input
+      → (others : ℕ → ℕ) → scalarRun p limit input others ≡ some r
+
+-- "Whenever the lane run accepts: for every input 6 to 255 and whatever the 28 other registers hold at the start, document 01's scalar run
+-- reaches stop and answers, and both agree in return value, events and their order, each event's location, the trace entry by entry, and
+-- the step count": the two results, which hold just these, are equal.
+abbrev pub Guarantee : Type 0
+Guarantee =
+    (image : List ℕ) (symbols : Rv32SymbolLayout) (rows entries : ℕ) (r : Result)
+    → (standingLaneRun image symbols rows entries) .answer ≡ passed r
+    → (input : ℕ) → 6 ≤ input → input ≤ 255
+    → (others : ℕ → ℕ) → standingScalarRun image symbols input others ≡ some r

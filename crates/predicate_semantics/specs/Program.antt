@@ -1,0 +1,58 @@
+-- What both runs are fed with: an image, its symbols and the core that runs them; and memory as it starts (document 01, "Written byte").
+use mathlib.Core.Bool.{Bool, _&&_}
+use mathlib.Core.Option.{Option}
+use mathlib.Core.List.{List}
+use Prim.Native.Nat.{ℕ, _+_, _-_}
+use lib.Dec.{leb, ltb}
+use lib.ListN.{getD, length}
+use Rattle.riscv32imc.specs.Constants.{imageBase, maxImageBytes}
+use Rattle.riscv_decode.specs.declared.Operation.{Operation}
+use Rattle.predicate_semantics.specs.declared.Rv32SymbolLayout.{Rv32SymbolLayout}
+
+-- how a halfword expands, which operation a word is after some number of completed steps, and how many registers there are
+pub record Core : Type 0 where
+  pub expand : ℕ → Option ℕ
+  pub decode : ℕ → ℕ → Option Operation
+  pub registers : ℕ
+
+-- "an image, the symbols", and the core that runs them
+pub record Program : Type 0 where
+  pub core : Core
+  pub image : List ℕ
+  pub symbols : Rv32SymbolLayout
+
+-- "Memory is 80000000 to 801FFFFF": the address past its end
+abbrev pub memoryEnd : ℕ
+memoryEnd = 0x80200000
+
+-- "The stop word 00100073 lies at stop = 801FFFFC"
+abbrev pub stop : ℕ
+stop = 0x801FFFFC
+
+-- the word that lies there
+abbrev pub stopWord : ℕ
+stopWord = 0x00100073
+
+-- "x2 = 801FFFF0"
+abbrev pub stackPointer : ℕ
+stackPointer = 0x801FFFF0
+
+-- the byte that memory starts with at an address: the image's, then zeros
+unfoldable pub initial : List ℕ → ℕ → ℕ
+initial image a = getD image (a - imageBase) 0
+
+-- the address past the image's last byte
+abbrev pub imageEnd : Program → ℕ
+imageEnd p = imageBase + length (p .image)
+
+-- no refusal 1: the image is not empty, and not above 1,048,576 bytes
+unfoldable pub sized : List ℕ → Bool
+sized image = ltb 0 (length image) && leb (length image) maxImageBytes
+
+-- no refusal 2: each symbol lies in memory
+unfoldable pub inMemory : ℕ → Bool
+inMemory a = leb imageBase a && ltb a memoryEnd
+
+-- the three of them
+unfoldable pub placed : Rv32SymbolLayout → Bool
+placed s = inMemory (s .entry) && inMemory (s .«event_count») && inMemory (s .events)

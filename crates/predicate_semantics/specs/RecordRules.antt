@@ -1,0 +1,70 @@
+-- What holds of every run besides demand 3: the rules that its record keeps (document 01, "Record").
+use mathlib.Core.Path.{_≡_}
+use mathlib.Core.Bool.{Bool, _&&_, _||_, cond}
+use mathlib.Core.Option.{some}
+use mathlib.Core.Logic.{_⊎_}
+use mathlib.Core.List.{List, [], _∷_}
+use Prim.Native.Nat.{ℕ, _≤_, _<_, _^_}
+use lib.Dec.{leb, eqb}
+use lib.ListN.{length}
+use Rattle.riscv32imc.specs.Constants.{maxMemoryBytes}
+use Rattle.predicate_semantics.specs.declared.PredicateControlStep.{PredicateControlStep}
+use Rattle.predicate_semantics.specs.declared.Rv32SymbolLayout.{Rv32SymbolLayout}
+use Rattle.predicate_semantics.specs.Program.{Core, Program, stop}
+use Rattle.predicate_semantics.specs.State.{Result}
+use Rattle.predicate_semantics.specs.Refusal.{Refusal, passed}
+use Rattle.predicate_semantics.specs.Lane.{LaneState, Setup}
+use Rattle.predicate_semantics.specs.Standing.{standingLaneRun}
+
+-- "lengths 2 or 4, each next counter equal to the following counter": a trace that begins at one address and goes to another
+abbrev pub Chain : ℕ → List PredicateControlStep → ℕ → Type 0
+Chain from [] to = from ≡ to
+Chain from (c ∷ cs) to =
+    (c .«program_counter» ≡ from)
+    × ((c .«instruction_bytes» ≡ 2) ⊎ (c .«instruction_bytes» ≡ 4))
+    × Chain (c .«next_program_counter») cs to
+
+-- "the control step (4, 4, 1, 4)": its program counters and its word are numbers of four bytes
+abbrev pub Words : List PredicateControlStep → Type 0
+Words [] = Unit
+Words (c ∷ cs) =
+    (c .«program_counter» < 2 ^ 32) × (c .«instruction_word» < 2 ^ 32) × (c .«next_program_counter» < 2 ^ 32) × Words cs
+
+-- what a halfword expands to is a number of four bytes
+abbrev pub ExpandsToWords : Core → Type 0
+ExpandsToWords core = (h w : ℕ) → core .expand h ≡ some w → w < 2 ^ 32
+
+-- of every run, accepted or refused: the state that it ends in
+pub record Completed (p : Program) (l : Setup) (limit : ℕ) (s : LaneState) : Type 0 where
+  -- "its trace is the first lent entries, as many as the steps"
+  pub counted : length (s .trace) ≡ s .steps
+  pub lent : s .steps ≤ l .entries
+  -- "completed steps (4, at most 1,000,000)"
+  pub bound : s .steps ≤ limit
+  pub chain : Chain (p .symbols .entry) (s .trace) (s .pc)
+  pub words : ExpandsToWords (p .core) → Words (s .trace)
+
+-- of an accepted run: its result too
+pub record Accepted (l : Setup) (s : LaneState) (r : Result) : Type 0 where
+  pub steps : s .steps ≡ r .steps
+  pub trace : s .trace ≡ r .trace
+  -- "the last equal to stop"
+  pub arrived : s .pc ≡ stop
+  -- "at most 32 events"
+  pub events : length (r .events) ≤ 32
+  -- "written bytes 4 to 2,097,151": stop's four are written, and none of the image's; each has a row
+  pub written-least : 4 ≤ length (s .memory)
+  pub written-most : length (s .memory) < maxMemoryBytes
+  pub lent : length (s .memory) ≤ l .rows
+
+-- "steps 1 to 1,000,000": with inputs that differ, entry = stop is refused
+abbrev pub TakesStep : Type 0
+TakesStep =
+    (image : List ℕ) (symbols : Rv32SymbolLayout) (rows entries : ℕ) (r : Result)
+    → (standingLaneRun image symbols rows entries) .answer ≡ passed r → 1 ≤ r .steps
+
+-- of a refused run: "refusal 1 to 14", and "a role of 1 to 10 for refusals 6 and 7, else 0"
+unfoldable pub proper : Refusal → Bool
+proper r =
+    leb 1 (r .number) && leb (r .number) 14
+    && cond (eqb (r .number) 6 || eqb (r .number) 7) (leb 1 (r .role) && leb (r .role) 10) (eqb (r .role) 0)

@@ -1,0 +1,34 @@
+-- Refusals (document 01, "Who causes a refusal"), and what a part of the lane run gives: a value, or the refusal that ends the run.
+use mathlib.Core.Bool.{Bool, true, false}
+use mathlib.Core.Option.{Option, none, some}
+use Prim.Native.Nat.{ℕ}
+
+-- the number, 1 to 14, and the role, 1 to 10 for 6 and 7, else 0
+pub record Refusal : Type 0 where
+  pub number : ℕ
+  pub role : ℕ
+
+-- a value that passed its tests, or a refusal
+pub data Tested (A : Type 0) : Type 0 where
+  passed : A → Tested A
+  refused : Refusal → Tested A
+
+-- the first refusal ends the run
+infixl 10 _>>=_
+unfoldable pub _>>=_ : {A B : Type 0} → Tested A → (A → Tested B) → Tested B
+_>>=_ (passed a) f = f a
+_>>=_ (refused r) f = refused r
+
+-- a refusal by its number and role
+unfoldable pub refuse : {A : Type 0} → ℕ → ℕ → Tested A
+refuse number role = refused (record { number = number; role = role })
+
+-- a test, and the refusal if it fails
+unfoldable pub require : ℕ → Bool → Tested (Unit {0})
+require number true = passed tt
+require number false = refuse number 0
+
+-- a value, and the refusal if there is none
+unfoldable pub found : {A : Type 0} → ℕ → Option A → Tested A
+found number none = refuse number 0
+found number (some a) = passed a

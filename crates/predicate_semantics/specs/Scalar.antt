@@ -1,0 +1,172 @@
+-- The scalar run (document 01): one input, "nothing from lane words, rows or record". After "else" stands what the lane run refuses with where this one fails.
+use mathlib.Core.Bool.{Bool, true, false, _&&_}
+use mathlib.Core.Option.{Option, none, some}
+use mathlib.Core.List.{List, [], _∷_, _++_}
+use Prim.Native.Nat.{ℕ, zero, suc, _+_, _*_, _/_, _%_}
+use lib.Dec.{leb, ltb, eqb}
+use lib.ListN.{getD, length}
+use Rattle.riscv32imc.specs.Arithmetic.{add, target}
+use Rattle.riscv32imc.specs.Bits.{join}
+use Rattle.riscv32imc.specs.Constants.{imageBase}
+use Rattle.riscv_decode.specs.declared.Fetched.{Fetched}
+use Rattle.predicate_semantics.specs.declared.CompiledMmioEvent.{CompiledMmioEvent}
+use Rattle.predicate_semantics.specs.Choice.{choose}
+use Rattle.predicate_semantics.specs.Meaning.{Operand, register, immediate, Meaning, nothing, literal, compute, jump, jumpTo, branch, load, store, meaning}
+use Rattle.predicate_semantics.specs.Program.{Program, memoryEnd, stop, stopWord, stackPointer, initial, imageEnd, sized, placed}
+use Rattle.predicate_semantics.specs.State.{State, Result, Effect, goes, sets, stores, Looked, fill, atStart, apply}
+
+-- a byte for each address
+abbrev pub Bytes : Type 0
+Bytes = ℕ → ℕ
+
+-- "32 register values, a byte for each memory address"
+abbrev pub ScalarState : Type 0
+ScalarState = State ℕ Bytes
+
+-- what fails, fails the run
+infixl 10 _>>=_
+unfoldable pub _>>=_ : {A B : Type 0} → Option A → (A → Option B) → Option B
+_>>=_ none f = none
+_>>=_ (some a) f = f a
+
+-- a test
+unfoldable pub require : Bool → Option (Unit {0})
+require true = some tt
+require false = none
+
+-- memory with one byte changed
+unfoldable pub put : Bytes → ℕ → ℕ → Bytes
+put memory a b = λ x. choose (eqb a x) (λ _. b) (λ _. memory x)
+
+-- the little-endian number in n bytes from an address
+unfoldable pub read : Bytes → ℕ → ℕ → ℕ
+read memory zero a = 0
+read memory (suc n) a = join (memory a) (read memory n (suc a))
+
+-- the low n bytes of a value stored from an address
+unfoldable pub write : Bytes → ℕ → ℕ → ℕ → Bytes
+write memory zero a v = memory
+write memory (suc n) a v = write (put memory a (v % 256)) n (suc a) (v / 256)
+
+-- range: n bytes from an address lie in memory; else 4, 5
+unfoldable pub inside : ℕ → ℕ → Option (Unit {0})
+inside a n = do
+  _ ← require (leb imageBase a)
+  require (leb (a + n) memoryEnd)
+
+-- a load: range, then the bytes
+unfoldable pub access : Bytes → ℕ → ℕ → Option ℕ
+access memory n a = do
+  _ ← inside a n
+  some (read memory n a)
+
+-- the value of a register
+unfoldable pub reg : ScalarState → ℕ → ℕ
+reg s i = getD (s .registers) i 0
+
+-- the value of a second operand
+unfoldable pub operand : ScalarState → Operand → ℕ
+operand s (register i) = reg s i
+operand s (immediate n) = n
+
+module _ (p : Program) where
+  -- "Low two bits 11 mean 4 bytes; otherwise 2, and the halfword is expanded to a word": the word and its length; else 8
+  unfoldable pub fetchWord : Bytes → ℕ → Option (ℕ × ℕ)
+  fetchWord memory pc = do
+    half ← access memory 2 pc
+    choose (eqb (half % 4) 3)
+        (λ _. do
+          word ← access memory 4 pc
+          some (word, 4))
+        (λ _. do
+          word ← p .core .expand half
+          some (word, 2))
+
+  -- "finds the word's row": its operation; else 9
+  unfoldable pub fetch : ScalarState → Option Fetched
+  fetch s = do
+    w ← fetchWord (s .memory) (s .pc)
+    operation ← p .core .decode (s .steps) (w .0)
+    some (record { operation = operation; length = w .1; word = w .0 })
+
+  -- "does the operation on its own values"; next is the following instruction's address; else 4, 5, 10, 11
+  unfoldable pub execute : ScalarState → ℕ → Meaning → Option (Effect ℕ)
+  execute s next nothing = some (goes next)
+  execute s next (literal rd v) = some (sets rd v next)
+  execute s next (compute rd f a b) = some (sets rd (f (reg s a) (operand s b)) next)
+  execute s next (jump rd to) = some (sets rd next to)
+  execute s next (jumpTo rd a offset) = do
+    _ ← require (ltb 0 (target (reg s a) offset))
+    some (sets rd next (target (reg s a) offset))
+  execute s next (branch f a b to) =
+      some (goes (choose (eqb (f (reg s a) (reg s b)) 0) (λ _. next) (λ _. to)))
+  execute s next (load rd a offset n extend) = do
+    v ← access (s .memory) n (add (reg s a) offset)
+    some (sets rd (extend v) next)
+  execute s next (store a b offset n) = do
+    _ ← inside (add (reg s a) offset) n
+    _ ← require (leb (imageEnd p) (add (reg s a) offset))
+    some (stores (add (reg s a) offset) n (reg s b) next)
+
+  -- what the next step would do
+  unfoldable pub look : ScalarState → Option (Looked ℕ)
+  look s = do
+    fetched ← fetch s
+    effect ← execute s (add (s .pc) (fetched .length)) (meaning (fetched .operation) (s .pc))
+    some (record { fetched = fetched; effect = effect })
+
+  -- "It adds its control step to the trace, 1 to the steps and, for an SW exactly at the event count's address, .."
+  unfoldable pub step : ScalarState → Option ScalarState
+  step s = do
+    seen ← look s
+    some (apply write (p .symbols .«event_count») s (seen .fetched) (seen .effect))
+
+  -- the events from index i on, after those done: for each location left, three words at events + 12 times the index
+  unfoldable pub events : Bytes → ℕ → List CompiledMmioEvent → List ℕ → Option (List CompiledMmioEvent)
+  events memory i done [] = some done
+  events memory i done (location ∷ locations) = do
+    operation ← access memory 4 (p .symbols .events + 12 * i)
+    offset ← access memory 4 (p .symbols .events + 12 * i + 4)
+    value ← access memory 4 (p .symbols .events + 12 * i + 8)
+    events memory (suc i)
+        (done ++ record { operation = operation; offset = offset; value = value; location = location } ∷ []) locations
+
+  -- "On first reaching stop it ends, and answers x10, the steps, the trace, and as many events as the word at the event count's address says"; else 12
+  unfoldable pub finish : ScalarState → Option Result
+  finish s = do
+    count ← access (s .memory) 4 (p .symbols .«event_count»)
+    _ ← require (leb count 32 && eqb count (length (s .locations)))
+    es ← events (s .memory) 0 [] (s .locations)
+    some (record { returnValue = reg s 10; steps = s .steps; trace = s .trace; events = es })
+
+  -- "While the program counter is not stop, a step", at most so many; else 3
+  unfoldable pub run : ℕ → ScalarState → Option Result
+  run zero s = choose (eqb (s .pc) stop) (λ _. finish s) (λ _. none)
+  run (suc n) s = choose (eqb (s .pc) stop) (λ _. finish s) (λ _. step s >>= λ t. run n t)
+
+  -- the state after n steps, none of them at stop
+  unfoldable pub after : ℕ → ScalarState → Option ScalarState
+  after zero s = some s
+  after (suc n) s = choose (eqb (s .pc) stop) (λ _. none) (λ _. step s >>= λ t. after n t)
+
+  -- "It starts at the entry, memory and x0, x1, x2, x10 as above, steps 0, both lists empty"; else 1, 2
+  unfoldable pub start : ℕ → (ℕ → ℕ) → Option ScalarState
+  start input others = do
+    _ ← require (sized (p .image))
+    _ ← require (placed (p .symbols))
+    some (record {
+      pc = p .symbols .entry;
+      registers = fill (p .core .registers) 0 (atStart 0 stop stackPointer input others);
+      memory = write (initial (p .image)) 4 stop stopWord;
+      steps = 0;
+      trace = [];
+      locations = [];
+    })
+
+  -- "Fed with an image, the symbols, an input and values for the 28 unknown registers": the program, a limit of steps, the input, the others
+  unfoldable pub scalarRun : ℕ → ℕ → (ℕ → ℕ) → Option Result
+  scalarRun limit input others = start input others >>= λ s. run limit s
+
+  -- the state that it is in after n steps
+  unfoldable pub reached : ℕ → ℕ → (ℕ → ℕ) → Option ScalarState
+  reached n input others = start input others >>= λ s. after n s

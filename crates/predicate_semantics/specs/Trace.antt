@@ -1,0 +1,31 @@
+-- A trace's bytes (document 01, "Who causes a refusal"): entries of 13 bytes, each as the body of a record's item 03.
+use mathlib.Core.List.{List, [], _∷_, map}
+use Prim.Native.Nat.{ℕ}
+use lib.ListN.{getD}
+use Rattle.little_endian.specs.Pack.{packs, unpacks}
+use Rattle.predicate_semantics.specs.declared.PredicateControlStep.{PredicateControlStep}
+
+-- the control step (4, 4, 1, 4): program counter, word after expansion, length, next program counter
+abbrev pub stepWidths : List ℕ
+stepWidths = 4 ∷ 4 ∷ 1 ∷ 4 ∷ []
+
+-- a step as its four numbers, and back
+abbrev pub stepValues : PredicateControlStep → List ℕ
+stepValues s = s .«program_counter» ∷ s .«instruction_word» ∷ s .«instruction_bytes» ∷ s .«next_program_counter» ∷ []
+
+abbrev pub stepOf : List ℕ → PredicateControlStep
+stepOf vs =
+    record {
+      «program_counter» = getD vs 0 0;
+      «instruction_word» = getD vs 1 0;
+      «instruction_bytes» = getD vs 2 0;
+      «next_program_counter» = getD vs 3 0;
+    }
+
+-- the entries of steps, one after another
+abbrev pub traceBytes : List PredicateControlStep → List ℕ
+traceBytes ss = packs [] stepWidths (map stepValues ss)
+
+-- n entries read as control steps, each after p other bytes: none in a trace
+abbrev pub stepsAt : ℕ → ℕ → List ℕ → List PredicateControlStep
+stepsAt p n bs = map stepOf (unpacks p stepWidths n bs)

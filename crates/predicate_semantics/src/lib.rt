@@ -1,0 +1,35 @@
+// The types that both runs, the record and their definitions share. The definitions stand in specs/.
+
+// The three symbols of an image: where it starts, and where it leaves its events.
+pub struct Rv32SymbolLayout {
+    pub entry: u32,
+    pub event_count: u32,
+    pub events: u32,
+}
+
+// One completed step; the word is the one after expansion.
+pub struct PredicateControlStep {
+    pub program_counter: u32,
+    pub instruction_word: u32,
+    pub instruction_bytes: u8,
+    pub next_program_counter: u32,
+}
+
+// One event, with the program counter of the SW that recorded it.
+pub struct CompiledMmioEvent {
+    pub operation: u32,
+    pub offset: u32,
+    pub value: u32,
+    pub location: u32,
+}
+
+// What an accepted run answers beside its events and its trace: the fields of a record's first item, in its order.
+pub struct PredicateTransducerExecution {
+    pub first_input: u8,
+    pub lane_count: u16,
+    pub return_value: u32,
+    pub symbolic_transitions: u32,
+    pub lane_value_operations: u32,
+    pub sparse_memory_bytes: u32,
+    pub event_count: u8,
+}
