@@ -1,0 +1,2 @@
+-- What the code's actions mean.
+pub mod Action
