@@ -1,0 +1,129 @@
+-- Laws of the bytes of a row: where they lie in lent memory, and what writing a row leaves. Assumes nothing.
+use mathlib.Core.Bool.{Bool, true, false, cond, not}
+use mathlib.Core.List.{List, [], _∷_, _++_, append-assoc}
+use mathlib.Core.Logic.{⊎-elim}
+use mathlib.Core.Option.{some}
+use mathlib.Core.Path.{_≡_, refl, ap, sym, _∙_}
+use Prim.Native.Nat.{ℕ, zero, suc, _+_, _*_, _^_, _-_, _<_, _≤_}
+use native.Mathlib.Nat.{add-zero}
+use native.Mathlib.Omega.{arith}
+use borrow.Author.Tests.{eq-eqb, ne-eqb}
+use lib.Arith.{lt-of-le-ne}
+use lib.Dec.{eqb}
+use lib.ListN.{length, getD, take, drop, set, length-drop}
+use lib.Seq.{take-take, take-at, drop-at, drop-drop, getD-take, getD-drop, length-take-le, take-set-le, drop-set-lt, sets, length-sets, sets-eq}
+use Rattle.predicate_semantics.specs.Memory.{Written}
+use Rattle.little_endian.specs.Number.{value, bytes}
+use Rattle.little_endian.proofs.NumberLaws.{value-bytes}
+use Rattle.little_endian.proofs.SetLaws.{sets-append}
+use Rattle.lane_memory.specs.Rows.{lanes, rowAt, rowByte, rowHolds, held, probe, headOf, writeRow}
+use Rattle.lane_memory.specs.declared.Probe.the-variants.{Empty, Match, Other}
+use Rattle.lane_memory.proofs.Search.{less?}
+
+-- ---- what stores leave before and behind them
+
+take-sets : (vs l : List ℕ) (i k : ℕ) → k ≤ i → take k (sets l i vs) ≡ take k l
+take-sets [] l i k h = refl
+take-sets (v ∷ vs) l i k h = take-sets vs (set l i v) (suc i) k (omega arith) ∙ take-set-le k l i v h
+
+drop-sets : (vs l : List ℕ) (i k : ℕ) → i + length vs ≤ k → drop k (sets l i vs) ≡ drop k l
+drop-sets [] l i k h = refl
+drop-sets (v ∷ vs) l i k h = drop-sets vs (set l i v) (suc i) k (omega arith) ∙ drop-set-lt k l i v (omega arith)
+
+-- ---- where a row's bytes lie
+
+part-take : (i n N : ℕ) (l : List ℕ) → i + n ≤ N → take n (drop i (take N l)) ≡ take n (drop i l)
+part-take zero n N l h = take-take n N l (omega arith)
+part-take (suc i) n zero l h = absurd (omega arith)
+part-take (suc i) n (suc N) [] h = refl
+part-take (suc i) n (suc N) (x ∷ l) h = part-take i n N l (omega arith)
+
+module _ (l : List ℕ) (s : ℕ) where
+  pub row-part : (i n : ℕ) → i + n ≤ 264 → take n (drop i (rowAt l s)) ≡ take n (drop (s * 264 + i) l)
+  row-part i n h = part-take i n 264 (drop (s * 264) l) h ∙ ap (λ (r : List ℕ). take n r) (drop-drop i (s * 264) l)
+
+  pub row-at : (i : ℕ) → i < 264 → getD (rowAt l s) i 0 ≡ getD l (s * 264 + i) 0
+  row-at i h = getD-take 264 (drop (s * 264) l) i 0 h ∙ getD-drop (s * 264) l i 0
+
+  pub row-first : getD (rowAt l s) 0 0 ≡ getD l (s * 264) 0
+  row-first = row-at 0 (omega arith) ∙ ap (λ (k : ℕ). getD l k 0) (add-zero (s * 264))
+
+  -- what a search sees of a row
+  module _ (a : ℕ) where
+    pub sees-empty : getD l (s * 264) 0 ≡ 0 → Empty ≡ probe (held l s) a
+    unfolding held
+    sees-empty e = rw (eq-eqb _ _ (row-first ∙ e))
+
+    module _ (d : getD l (s * 264) 0 ≡ 0 → ⊥) (x : ℕ) (r : x ≡ value (take 4 (drop (s * 264 + 4) l))) where
+      its : value (take 4 (drop 4 (rowAt l s))) ≡ x
+      its = ap value (row-part 4 4 (omega arith)) ∙ sym r
+
+      pub sees-match : x ≡ a → Match ≡ probe (held l s) a
+      unfolding held
+      sees-match e = rw (ne-eqb (getD (rowAt l s) 0 0) 0 (λ z. d (sym row-first ∙ z)), eq-eqb (value (take 4 (drop 4 (rowAt l s)))) a (its ∙ e))
+
+      pub sees-other : (x ≡ a → ⊥) → Other ≡ probe (held l s) a
+      unfolding held
+      sees-other e = rw (ne-eqb (getD (rowAt l s) 0 0) 0 (λ z. d (sym row-first ∙ z)), ne-eqb (value (take 4 (drop 4 (rowAt l s)))) a (λ z. e (sym its ∙ z)))
+
+  -- what is read out of a row
+  pub row-values : s * 264 + 264 ≤ length l → length (take lanes (drop (s * 264 + 8) l)) ≡ lanes
+  row-values room = length-take-le lanes (drop (s * 264 + 8) l) (omega (arith, length-drop (s * 264 + 8) l))
+
+  pub row-value : (i : ℕ) → i < lanes → getD l (s * 264 + 8 + i) 0 ≡ getD (take lanes (drop (s * 264 + 8) l)) i 0
+  row-value i h = sym (getD-take lanes (drop (s * 264 + 8) l) i 0 h ∙ getD-drop (s * 264 + 8) l i 0)
+
+  pub row-read : {values : List ℕ} {known : Bool} → values ≡ take lanes (drop (s * 264 + 8) l) → known ≡ not (eqb (getD l (s * 264 + 1) 0) 0)
+      → record { values = values; known = known } ≡ rowByte (rowAt l s)
+  row-read e f = rw (e, f, row-part 8 lanes (omega arith), row-at 1 (omega arith))
+
+-- ---- a row is written
+
+mark-known : (k : Bool) → not (eqb (cond k 1 0) 0) ≡ k
+mark-known true = refl
+mark-known false = refl
+
+pub head-set : (l : List ℕ) (at a : ℕ) (known : Bool) {mark : ℕ} → mark ≡ cond known 1 0
+    → sets (set (set (set (set l at 1) (at + 1) mark) (at + 2) 0) (at + 3) 0) (at + 4) (bytes 4 a) ≡ sets l at (headOf known a)
+head-set l at a known e =
+    let e1 : at + 1 ≡ suc at = omega arith in
+    let e2 : at + 2 ≡ suc (suc at) = omega arith in
+    let e3 : at + 3 ≡ suc (suc (suc at)) = omega arith in
+    let e4 : at + 4 ≡ suc (suc (suc (suc at))) = omega arith in
+    rw (e1, e2, e3, e4, e)
+
+pub row-set : (l : List ℕ) (s : ℕ) (w : Written) {l₁ l₂ : List ℕ} → l₁ ≡ sets l (s * 264) (headOf (w .byte .known) (w .address)) → l₂ ≡ sets l₁ (s * 264 + 8) (w .byte .values)
+    → l₂ ≡ writeRow l s w
+row-set l s w e f = f ∙ rw e (sets-append (headOf (w .byte .known) (w .address)) (w .byte .values) l (s * 264))
+
+pub write-long : (l : List ℕ) (s : ℕ) (w : Written) → length (writeRow l s w) ≡ length l
+write-long l s w = length-sets l (s * 264) (headOf (w .byte .known) (w .address) ++ w .byte .values)
+
+module _ (l : List ℕ) (s : ℕ) (w : Written) (size : length (w .byte .values) ≡ lanes) where
+  abbrev image : List ℕ
+  image = headOf (w .byte .known) (w .address) ++ w .byte .values
+
+  pub write-behind : (k : ℕ) → s * 264 + (8 + lanes) ≤ k → drop k (writeRow l s w) ≡ drop k l
+  write-behind k h = drop-sets image l (s * 264) k (omega (arith, size))
+
+  pub held-written : s * 264 + 264 ≤ length l → w .address < 2 ^ 32 → held (writeRow l s w) s ≡ some w
+  unfolding held
+  held-written room below =
+      let rest : List ℕ = drop (s * 264 + length image) l in
+      let e : drop (s * 264) (writeRow l s w) ≡ image ++ rest =
+      ap (λ (r : List ℕ). drop (s * 264) r) (sets-eq image l (s * 264) (omega (arith, size)) ∙ append-assoc (take (s * 264) l) image rest)
+      ∙ drop-at (take (s * 264) l) (image ++ rest) (s * 264) (length-take-le (s * 264) l (omega arith)) in
+      ap (λ (r : List ℕ). rowHolds (take 264 r)) e
+      ∙ rw (take-take lanes 256 (w .byte .values ++ rest) (omega arith), take-at (w .byte .values) rest lanes size, value-bytes 4 (w .address) below, mark-known (w .byte .known))
+
+  pub held-others : (t : ℕ) → (t ≡ s → ⊥) → held (writeRow l s w) t ≡ held l t
+  unfolding held
+  held-others t d =
+      ⊎-elim
+      (λ (h : t < s).
+      ap rowHolds
+      (sym (part-take (t * 264) 264 (s * 264) (writeRow l s w) (omega arith))
+      ∙ ap (λ (r : List ℕ). take 264 (drop (t * 264) r)) (take-sets image l (s * 264) (s * 264) (omega arith))
+      ∙ part-take (t * 264) 264 (s * 264) l (omega arith)))
+      (λ (h : s ≤ t). ap (λ (r : List ℕ). rowHolds (take 264 r)) (write-behind (t * 264) (let q : s < t = lt-of-le-ne h (λ z. d (sym z)) in omega arith)))
+      (less? t s)
