@@ -1,0 +1,245 @@
+-- A record's bytes read back as the record; bytes that read as a record are its bytes, and its rules hold. Assumes nothing.
+use mathlib.Core.Path.{_≡_, refl, ap, sym, _∙_, subst}
+use mathlib.Core.Bool.{Bool, true, false, cond, _&&_}
+use mathlib.Core.Option.{Option, none, some}
+use mathlib.Core.List.{List, [], _∷_, _++_, map, append-assoc, append-nil}
+use Prim.Native.Nat.{ℕ, zero, suc, _+_, _*_, _≤_, _<_}
+use native.Mathlib.Numerals.{one-add}
+use native.Mathlib.Nat.{suc-mul}
+use native.Mathlib.Omega.{arith}
+use lib.Dec.{eqb}
+use lib.ListN.{length, getD, take, drop, length-append, length-drop, length-map}
+use lib.Seq.{drop-at, take-add, drop-drop, take-all}
+use borrow.Author.Tests.{eq-eqb, eqb-true}
+use Rattle.little_endian.specs.Number.{AllBytes}
+use Rattle.little_endian.specs.Pack.{unpack, unpacks, Fits, AllFit}
+use Rattle.little_endian.proofs.NumberLaws.{below-drop}
+use Rattle.little_endian.proofs.PackLaws.{Led, unpack-pack, pack-unpack, unpack-fits, length-packs, past-row, unpacks-packs, packs-unpacks, unpacks-fit, length-unpacks}
+use Rattle.predicate_semantics.specs.declared.PredicateControlStep.{PredicateControlStep}
+use Rattle.predicate_semantics.specs.declared.CompiledMmioEvent.{CompiledMmioEvent}
+use Rattle.predicate_semantics.specs.declared.PredicateTransducerExecution.{PredicateTransducerExecution}
+use Rattle.predicate_semantics.specs.Trace.{stepWidths, stepValues, stepOf, stepsAt}
+use Rattle.lane_record.specs.declared.RecordRefusal.{RecordRefusal}
+use Rattle.lane_record.specs.Format.{Kind, heading, event, step, refusal, mark, widths, size, item, items, Record, accepted, refused, executionValues, executionOf, eventValues, eventOf, refusalValues, refusalOf, encode, FitsRecord}
+use Rattle.lane_record.specs.Rules.{executionValid, refusalValid, valid, linked, stop}
+use Rattle.lane_record.specs.Decode.{executionAt, eventsAt, refusalAt, stepsFrom, acceptedAt, marks, marked, acceptedForm, ruled, refusedIn, acceptedIn, decode}
+use Rattle.lane_record.proofs.TestLaws.{both, yes}
+
+-- ---- a record or none
+pub ruled-some : (w : Bool) (r x : Record) → ruled w r ≡ some x → (w ≡ true) × (r ≡ x)
+ruled-some true r x e = (refl, (cc))
+ruled-some false r x e = let z : _≡_ {A = ℕ} 0 1 = cc in absurd (omega arith)
+
+-- ---- structs and their numbers
+events-values : (es : List CompiledMmioEvent) → map eventOf (map eventValues es) ≡ es
+events-values [] = refl
+events-values (e ∷ es) = ap (λ (r : List CompiledMmioEvent). e ∷ r) (events-values es)
+
+pub steps-values : (ss : List PredicateControlStep) → map stepOf (map stepValues ss) ≡ ss
+steps-values [] = refl
+steps-values (s ∷ ss) = ap (λ (r : List PredicateControlStep). s ∷ r) (steps-values ss)
+
+values-events : (n : ℕ) (bs : List ℕ) → map eventValues (eventsAt n bs) ≡ unpacks 1 (widths event) n bs
+values-events zero bs = refl
+values-events (suc n) bs = ap (λ (r : List (List ℕ)). unpack (widths event) (drop 1 bs) ∷ r) (values-events n (drop 17 bs))
+
+pub values-steps : (p n : ℕ) (bs : List ℕ) → map stepValues (stepsAt p n bs) ≡ unpacks p stepWidths n bs
+values-steps p zero bs = refl
+values-steps p (suc n) bs = ap (λ (r : List (List ℕ)). unpack stepWidths (drop p bs) ∷ r) (values-steps p n (drop (p + 13) bs))
+
+pub length-eventsAt : (n : ℕ) (bs : List ℕ) → length (eventsAt n bs) ≡ n
+length-eventsAt n bs = length-map (unpacks 1 (widths event) n bs) eventOf ∙ length-unpacks 1 (widths event) n bs
+
+pub length-stepsAt : (p n : ℕ) (bs : List ℕ) → length (stepsAt p n bs) ≡ n
+length-stepsAt p n bs = length-map (unpacks p stepWidths n bs) stepOf ∙ length-unpacks p stepWidths n bs
+
+pub steps-fit : (p n : ℕ) (bs : List ℕ) → AllBytes bs → n * (p + 13) ≤ length bs → AllFit (widths step) (map stepValues (stepsAt p n bs))
+steps-fit p n bs b h = subst (AllFit (widths step)) (sym (values-steps p n bs)) (unpacks-fit p stepWidths n bs b h)
+
+-- ---- items of one kind
+module _ (k : Kind) where
+  marked-items : (vss : List (List ℕ)) (rest : List ℕ) → AllFit (widths k) vss → marked k (length vss) (items k vss ++ rest) ≡ true
+  marked-items [] rest f = refl
+  marked-items (vs ∷ vss) rest f =
+      rw (eq-eqb (mark k) (mark k) refl, append-assoc, past-row (mark k ∷ []) (widths k) vs (items k vss ++ rest) (f .0), marked-items vss rest (f .1))
+
+  -- an item read and written again
+  item-at : (bs : List ℕ) → AllBytes bs → size k ≤ length bs → getD bs 0 0 ≡ mark k → item k (unpack (widths k) (drop 1 bs)) ≡ take (size k) bs
+  item-at [] h l e = absurd (omega arith)
+  item-at (b ∷ bs) h l e = rw (pack-unpack (widths k) bs (λ i. h (suc i)) (omega arith), one-add, ← e)
+
+first-led : (m : ℕ) (bs : List ℕ) → 0 < length bs → getD bs 0 0 ≡ m → take 1 bs ≡ m ∷ []
+first-led m [] h e = absurd (omega arith)
+first-led m (b ∷ bs) h e = rw e
+
+marked-led : (m z n : ℕ) (bs : List ℕ) → 0 < z → n * z ≤ length bs → marks m z n bs ≡ true → Led (m ∷ []) z n bs
+marked-led m z zero bs p l t = tt
+marked-led m z (suc n) bs p l t =
+    let k : n * z + z ≤ length bs = rw suc-mul at l in
+    let u = both (eqb (getD bs 0 0) m) (marks m z n (drop z bs)) t in
+    (first-led m bs (omega arith) (eqb-true _ _ (u .0)), marked-led m z n (drop z bs) p (simp length-drop (omega arith)) (u .1))
+
+-- ---- written, then read
+-- what the rules say of an accepted record's parts
+pub rules : (e : PredicateTransducerExecution) (es : List CompiledMmioEvent) (ss : List PredicateControlStep) → valid (accepted e es ss) ≡ true
+    → (executionValid e ≡ true) × (length es ≡ e .«event_count») × (length ss ≡ e .«symbolic_transitions»)
+rules e es ss v =
+    let t3 = both _ (linked stop ss) v in
+    let t2 = both _ (eqb (length ss) (e .«symbolic_transitions»)) (t3 .0) in
+    let t1 = both (executionValid e) (eqb (length es) (e .«event_count»)) (t2 .0) in
+    (t1 .0, eqb-true _ _ (t1 .1), eqb-true _ _ (t2 .1))
+
+module _ (e : PredicateTransducerExecution) (es : List CompiledMmioEvent) (ss : List PredicateControlStep)
+    (f : FitsRecord (accepted e es ss)) (v : valid (accepted e es ss) ≡ true) where
+  abbrev B : List ℕ
+  B = encode (accepted e es ss)
+
+  abbrev E : List ℕ
+  E = items event (map eventValues es)
+
+  abbrev S : List ℕ
+  S = items step (map stepValues ss)
+
+  events-counted : length es ≡ e .«event_count»
+  events-counted = rules e es ss v .1
+
+  steps-counted : length ss ≡ e .«symbolic_transitions»
+  steps-counted = rules e es ss v .2
+
+  execution-back : executionAt B ≡ e
+  execution-back = ap executionOf (unpack-pack (widths heading) (executionValues e) (E ++ S) (f .0))
+
+  long-events : length E ≡ e .«event_count» * 17
+  long-events = length-packs (2 ∷ []) (widths event) (map eventValues es) (f .1) ∙ rw (length-map es eventValues, events-counted)
+
+  long-steps : length S ≡ e .«symbolic_transitions» * 14
+  long-steps = length-packs (3 ∷ []) (widths step) (map stepValues ss) (f .2) ∙ rw (length-map ss stepValues, steps-counted)
+
+  past-events : drop (stepsFrom e) B ≡ S
+  past-events = sym (drop-drop (e .«event_count» * 17) 21 B) ∙ drop-at E S (e .«event_count» * 17) long-events
+
+  long : length B ≡ stepsFrom e + e .«symbolic_transitions» * 14
+  long = omega (arith, length-append E S, long-events, long-steps)
+
+  events-back : eventsAt (e .«event_count») (drop 21 B) ≡ es
+  events-back =
+      rw (← events-counted, ← length-map es eventValues) (ap (map eventOf) (unpacks-packs (2 ∷ []) (widths event) (map eventValues es) S (f .1)) ∙ events-values es)
+
+  steps-in : stepsAt 1 (e .«symbolic_transitions») S ≡ ss
+  steps-in =
+      rw (← steps-counted, ← length-map ss stepValues, ← append-nil S)
+      (ap (map stepOf) (unpacks-packs (3 ∷ []) (widths step) (map stepValues ss) [] (f .2)) ∙ steps-values ss)
+
+  same-record : acceptedAt e B ≡ accepted e es ss
+  same-record =
+      ap (λ (x : List CompiledMmioEvent). accepted e x (stepsAt 1 (e .«symbolic_transitions») (drop (stepsFrom e) B))) events-back
+      ∙ ap (λ (x : List PredicateControlStep). accepted e es x) (ap (stepsAt 1 (e .«symbolic_transitions»)) past-events ∙ steps-in)
+
+  events-marked : marked event (e .«event_count») (drop 21 B) ≡ true
+  events-marked = rw (← events-counted, ← length-map es eventValues) (marked-items event (map eventValues es) S (f .1))
+
+  steps-marked : marked step (e .«symbolic_transitions») (drop (stepsFrom e) B) ≡ true
+  steps-marked =
+      ap (marked step (e .«symbolic_transitions»)) past-events
+      ∙ rw (← steps-counted, ← length-map ss stepValues, ← append-nil S) (marked-items step (map stepValues ss) [] (f .2))
+
+  formed : acceptedForm e B ≡ true
+  formed = yes (yes (yes (eq-eqb (length B) (stepsFrom e + e .«symbolic_transitions» * 14) long) refl) events-marked) steps-marked
+
+  accepted-back : decode B ≡ some (accepted e es ss)
+  unfolding decode
+  accepted-back =
+      ap (λ (x : PredicateTransducerExecution). acceptedIn x B) execution-back
+      ∙ ap (λ (x : Record). ruled (acceptedForm e B && valid x) x) same-record
+      ∙ ap (λ (t : Bool). ruled t (accepted e es ss)) (yes formed v)
+
+refused-back : (f : RecordRefusal) → FitsRecord (refused f) → valid (refused f) ≡ true → decode (encode (refused f)) ≡ some (refused f)
+unfolding decode
+refused-back f fits v =
+    ap (λ (x : RecordRefusal). ruled (valid (refused x)) (refused x)) (ap refusalOf (unpack-pack (widths refusal) (refusalValues f) [] fits))
+    ∙ ap (λ (t : Bool). ruled t (refused f)) v
+
+pub decode-encode : (x : Record) → FitsRecord x → valid x ≡ true → decode (encode x) ≡ some x
+decode-encode (accepted e es ss) f v = accepted-back e es ss f v
+decode-encode (refused r) f v = refused-back r f v
+
+-- ---- read, then written
+-- what the tests of an accepted record's form say
+pub record Formed (e : PredicateTransducerExecution) (bs : List ℕ) : Type 0 where
+  pub exact : length bs ≡ stepsFrom e + e .«symbolic_transitions» * 14
+  pub kind : getD bs 0 0 ≡ 1
+  pub events-marked : marked event (e .«event_count») (drop 21 bs) ≡ true
+  pub steps-marked : marked step (e .«symbolic_transitions») (drop (stepsFrom e) bs) ≡ true
+
+pub form : (e : PredicateTransducerExecution) (bs : List ℕ) → acceptedForm e bs ≡ true → Formed e bs
+form e bs f =
+    let t3 = both _ (marked step (e .«symbolic_transitions») (drop (stepsFrom e) bs)) f in
+    let t2 = both _ (marked event (e .«event_count») (drop 21 bs)) (t3 .0) in
+    let t1 = both (eqb (length bs) (stepsFrom e + e .«symbolic_transitions» * 14)) (eqb (getD bs 0 0) 1) (t2 .0) in
+    record { exact = eqb-true _ _ (t1 .0); kind = eqb-true _ _ (t1 .1); events-marked = t2 .1; steps-marked = t3 .1 }
+
+three-parts : (x y z : ℕ) (bs : List ℕ) → length bs ≡ x + y + z → take x bs ++ (take y (drop x bs) ++ take z (drop (x + y) bs)) ≡ bs
+three-parts x y z bs e =
+    rw (← drop-drop y x bs, ← take-add y z (drop x bs), ← take-add x (y + z) bs) (take-all (x + (y + z)) bs (omega arith))
+
+-- bytes that read as a record are that record's, which keeps the rules
+pub record Same (bs : List ℕ) (x : Record) : Type 0 where
+  pub bytes : encode x ≡ bs
+  pub rules : valid x ≡ true
+  pub fits : FitsRecord x
+
+module _ (bs : List ℕ) (b : AllBytes bs) where
+  accepted-same : acceptedForm (executionAt bs) bs ≡ true → valid (acceptedAt (executionAt bs) bs) ≡ true → Same bs (acceptedAt (executionAt bs) bs)
+  accepted-same t v =
+      let g = form (executionAt bs) bs t in
+      let n : ℕ = executionAt bs .«event_count» in
+      let s : ℕ = executionAt bs .«symbolic_transitions» in
+      let E : List ℕ = drop 21 bs in
+      let S : List ℕ = drop (21 + n * 17) bs in
+      let lE : n * 17 ≤ length E = simp length-drop (omega (arith, g .exact)) in
+      let lS : s * 14 ≤ length S = simp length-drop (omega (arith, g .exact)) in
+      let bE : AllBytes E = below-drop 21 bs b in
+      let bS : AllBytes S = below-drop (21 + n * 17) bs b in
+      let pE : items event (map eventValues (eventsAt n E)) ≡ take (n * 17) E =
+      ap (items event) (values-events n E) ∙ packs-unpacks (2 ∷ []) (widths event) n E bE lE (marked-led 2 17 n E (omega arith) lE (g .events-marked)) in
+      let pS : items step (map stepValues (stepsAt 1 s S)) ≡ take (s * 14) S =
+      ap (items step) (values-steps 1 s S) ∙ packs-unpacks (3 ∷ []) stepWidths s S bS lS (marked-led 3 14 s S (omega arith) lS (g .steps-marked)) in
+      let pH : item heading (executionValues (executionAt bs)) ≡ take 21 bs = item-at heading bs b (omega (arith, g .exact)) (g .kind) in
+      record {
+        bytes = ap (λ (x : List ℕ). x ++ (items event (map eventValues (eventsAt n E)) ++ items step (map stepValues (stepsAt 1 s S)))) pH
+            ∙ ap (λ (x : List ℕ). take 21 bs ++ (x ++ items step (map stepValues (stepsAt 1 s S)))) pE
+            ∙ ap (λ (x : List ℕ). take 21 bs ++ (take (n * 17) E ++ x)) pS
+            ∙ three-parts 21 (n * 17) (s * 14) bs (g .exact);
+        rules = v;
+        fits = (
+          unpack-fits (widths heading) (drop 1 bs) (below-drop 1 bs b) (simp length-drop (omega (arith, g .exact))),
+          subst (AllFit (widths event)) (sym (values-events n E)) (unpacks-fit 1 (widths event) n E bE lE),
+          steps-fit 1 s S bS lS,
+        );
+      }
+
+  refused-same : getD bs 0 0 ≡ 0x7F → length bs ≡ 7 → refusalValid (refusalAt bs) ≡ true → Same bs (refused (refusalAt bs))
+  refused-same m l v =
+      record {
+        bytes = item-at refusal bs b (omega arith) m ∙ take-all 7 bs (omega arith);
+        rules = v;
+        fits = unpack-fits (widths refusal) (drop 1 bs) (below-drop 1 bs b) (simp length-drop (omega arith));
+      }
+
+  same-cases : (x : Record) (m : Bool) → eqb (getD bs 0 0) 0x7F ≡ m → cond m (refusedIn bs) (acceptedIn (executionAt bs) bs) ≡ some x → Same bs x
+  same-cases x true p e =
+      let u = ruled-some (eqb (length bs) 7 && valid (refused (refusalAt bs))) (refused (refusalAt bs)) x e in
+      let t = both (eqb (length bs) 7) (valid (refused (refusalAt bs))) (u .0) in
+      subst (Same bs) (u .1) (refused-same (eqb-true _ _ p) (eqb-true _ _ (t .0)) (t .1))
+  same-cases x false p e =
+      let u = ruled-some (acceptedForm (executionAt bs) bs && valid (acceptedAt (executionAt bs) bs)) (acceptedAt (executionAt bs) bs) x e in
+      let t = both (acceptedForm (executionAt bs) bs) (valid (acceptedAt (executionAt bs) bs)) (u .0) in
+      subst (Same bs) (u .1) (accepted-same (t .0) (t .1))
+
+  pub decode-same : (x : Record) → decode bs ≡ some x → Same bs x
+  unfolding decode
+  decode-same x e = same-cases x (eqb (getD bs 0 0) 0x7F) refl e
+
+-- and the bytes of a record that keeps the rules read as it
+pub decode-only : (bs : List ℕ) (x : Record) → encode x ≡ bs → valid x ≡ true → FitsRecord x → decode bs ≡ some x
+decode-only bs x e v f = subst (λ (y : List ℕ). decode y ≡ some x) e (decode-encode x f v)

@@ -1,0 +1,139 @@
+-- What is written reads back as itself, and what is read is written again byte for byte. Assumes nothing.
+use mathlib.Core.Path.{_≡_, refl, ap, sym, _∙_, subst}
+use mathlib.Core.Bool.{Bool, true, false, cond, _&&_}
+use mathlib.Core.Option.{Option, none, some}
+use mathlib.Core.List.{List, [], _∷_, _++_, map}
+use Prim.Native.Nat.{ℕ, zero, suc, _*_, _≤_}
+use native.Mathlib.Omega.{arith}
+use lib.Dec.{leb}
+use lib.ListN.{length, take, drop, length-append, length-map}
+use lib.Seq.{take-append-seam}
+use borrow.Author.Tests.{leb-true, le-leb}
+use Rattle.little_endian.specs.Number.{AllBytes}
+use Rattle.little_endian.specs.Pack.{unpacks, AllFit}
+use Rattle.little_endian.specs.Lent.{over}
+use Rattle.little_endian.proofs.PackLaws.{Led, unpacks-packs, packs-unpacks}
+use Rattle.predicate_semantics.specs.declared.PredicateControlStep.{PredicateControlStep}
+use Rattle.predicate_semantics.specs.declared.CompiledMmioEvent.{CompiledMmioEvent}
+use Rattle.predicate_semantics.specs.declared.PredicateTransducerExecution.{PredicateTransducerExecution}
+use Rattle.predicate_semantics.specs.Trace.{stepWidths, stepValues, stepOf, traceBytes, stepsAt}
+use Rattle.lane_record.specs.declared.RecordAnswer.{RecordAnswer}
+use Rattle.lane_record.specs.declared.RecordAnswer.the-variants as answer
+use Rattle.lane_record.specs.declared.RecordOutcome.{RecordOutcome}
+use Rattle.lane_record.specs.Format.{step, widths, Record, accepted, refused, encode, FitsRecord}
+use Rattle.lane_record.specs.Rules.{link, begins, linked, valid}
+use Rattle.lane_record.specs.Decode.{ruled, decode}
+use Rattle.lane_record.specs.Answers.{Said, done, wrote, refuses, noEvents, noOutcome, acceptedOutcome, readAnswer, readOutcome, readTrace, acceptedGiven, givenAccepted, givenBy, given, writeAnswer, writeOutput}
+use Rattle.lane_record.proofs.TestLaws.{both, yes}
+use Rattle.lane_record.proofs.DecodeLaws.{ruled-some, steps-values, values-steps, rules, decode-encode, Same, decode-same}
+use Rattle.lane_record.proofs.AnswerLaws.{length-trace}
+
+-- ---- entries of a trace
+led-nil : (z n : ℕ) (bs : List ℕ) → Led [] z n bs
+led-nil z zero bs = tt
+led-nil z (suc n) bs = (refl, led-nil z n (drop z bs))
+
+-- entries read and written again
+entries-same : (n : ℕ) (t : List ℕ) → AllBytes t → n * 13 ≤ length t → traceBytes (stepsAt 0 n t) ≡ take (n * 13) t
+entries-same n t b l = rw (values-steps 0 n t) (packs-unpacks [] stepWidths n t b l (led-nil 13 n t))
+
+-- entries written and read again
+steps-same : (ss : List PredicateControlStep) (rest : List ℕ) → AllFit (widths step) (map stepValues ss) → stepsAt 0 (length ss) (traceBytes ss ++ rest) ≡ ss
+steps-same ss rest f =
+    rw (← length-map ss stepValues) (ap (map stepOf) (unpacks-packs [] stepWidths (map stepValues ss) rest f) ∙ steps-values ss)
+
+-- an accepted result whose steps stand in the trace is their record, if that keeps the rules
+pub given-trace : (e : PredicateTransducerExecution) (es : List CompiledMmioEvent) (ss : List PredicateControlStep) (t : List ℕ)
+    → AllFit (widths step) (map stepValues ss) → valid (accepted e (take (e .«event_count») es) ss) ≡ true
+    → givenAccepted e es (over (traceBytes ss) t) ≡ some (accepted e (take (e .«event_count») es) ss)
+given-trace e es ss t f v =
+    let T : List ℕ = over (traceBytes ss) t in
+    let n = rules e (take (e .«event_count») es) ss v .2 in
+    let same : acceptedGiven e es T ≡ accepted e (take (e .«event_count») es) ss =
+    ap (λ (x : List PredicateControlStep). accepted e (take (e .«event_count») es) x) (rw (← n) (steps-same ss (drop (length (traceBytes ss)) t) f)) in
+    let l : e .«symbolic_transitions» * 13 ≤ length T = omega (arith, length-append (traceBytes ss) (drop (length (traceBytes ss)) t), length-trace ss, n) in
+    ap (λ (x : Record). ruled (leb (e .«symbolic_transitions» * 13) (length T) && valid x) x) same
+    ∙ ap (λ (w : Bool). ruled w (accepted e (take (e .«event_count») es) ss)) (yes (le-leb _ _ l) v)
+
+-- a trace that ends at a step's counter stays linked when the step is added
+pub linked-snoc : (end : ℕ) (ss : List PredicateControlStep) (s : PredicateControlStep) → linked (s .«program_counter») ss ≡ true → link s end ≡ true
+    → linked end (ss ++ (s ∷ [])) ≡ true
+linked-snoc end [] s l k = yes k refl
+linked-snoc end (x ∷ []) s l k = yes (both (link x (s .«program_counter»)) true l .0) (yes k refl)
+linked-snoc end (x ∷ y ∷ ss) s l k =
+    let b = both (link x (y .«program_counter»)) (linked (s .«program_counter») (y ∷ ss)) l in
+    yes (b .0) (linked-snoc end (y ∷ ss) s (b .1) k)
+
+-- ---- written, then read
+given-valid : (a : RecordAnswer) (o : RecordOutcome) (t : List ℕ) (x : Record) → givenBy a (o .execution) (o .events) t ≡ some x → valid x ≡ true
+given-valid answer.Accepted o t x g =
+    let r : Record = acceptedGiven (o .execution) (o .events) t in
+    let u = ruled-some (leb (o .execution .«symbolic_transitions» * 13) (length t) && valid r) r x g in
+    subst (λ (y : Record). valid y ≡ true) (u .1) (both (leb (o .execution .«symbolic_transitions» * 13) (length t)) (valid r) (u .0) .1)
+given-valid (answer.Refused f) o t x g =
+    let u = ruled-some (valid (refused f)) (refused f) x g in
+    subst (λ (y : Record). valid y ≡ true) (u .1) (u .0)
+
+-- the bytes that the writer leaves read as the record that it was given
+pub write-read : (o : RecordOutcome) (t out : List ℕ) (x : Record) → given o t ≡ some x → FitsRecord x → length (encode x) ≤ length out
+    → decode (take (length (encode x)) (writeOutput (given o t) out)) ≡ some x
+write-read o t out x g f l =
+    ap (λ (q : Option Record). decode (take (length (encode x)) (writeOutput q out))) g
+    ∙ ap (λ (w : Bool). decode (take (length (encode x)) (cond w (over (encode x) out) out))) (le-leb _ _ l)
+    ∙ ap decode (take-append-seam (encode x) (drop (length (encode x)) out))
+    ∙ decode-encode x f (given-valid (o .answer) o t x g)
+
+-- of an accepted one the reader then gives the fields, the first events and the entries that the writer was given
+pub read-back : (o : RecordOutcome) (t t2 : List ℕ) (x : Record) → o .answer ≡ answer.Accepted → AllBytes t → given o t ≡ some x
+    → o .execution .«symbolic_transitions» * 13 ≤ length t2
+    → (readAnswer (some x) (length t2) ≡ done)
+    × (readOutcome (some x) (length t2) ≡ acceptedOutcome (o .execution) (take (o .execution .«event_count») (o .events)))
+    × (readTrace (some x) t2 ≡ over (take (o .execution .«symbolic_transitions» * 13) t) t2)
+read-back o t t2 x a b g l =
+    let e : PredicateTransducerExecution = o .execution in
+    let r : Record = acceptedGiven e (o .events) t in
+    let u = ruled-some (leb (e .«symbolic_transitions» * 13) (length t) && valid r) r x (rw a at g) in
+    let k = leb-true _ _ (both (leb (e .«symbolic_transitions» * 13) (length t)) (valid r) (u .0) .0) in
+    let n = le-leb (e .«symbolic_transitions» * 13) (length t2) l in
+    subst (λ (y : Record).
+    (readAnswer (some y) (length t2) ≡ done)
+    × (readOutcome (some y) (length t2) ≡ acceptedOutcome e (take (e .«event_count») (o .events)))
+    × (readTrace (some y) t2 ≡ over (take (e .«symbolic_transitions» * 13) t) t2))
+    (u .1) (rw n, rw n, rw (n, entries-same (e .«symbolic_transitions») t b k))
+
+-- ---- read, then written
+module _ (e : PredicateTransducerExecution) (es : List CompiledMmioEvent) (ss : List PredicateControlStep) (t : List ℕ)
+    (f : FitsRecord (accepted e es ss)) (v : valid (accepted e es ss) ≡ true) where
+  given-again : givenAccepted e (over es noEvents) (over (traceBytes ss) t) ≡ some (accepted e es ss)
+  given-again =
+      let p : take (e .«event_count») (over es noEvents) ≡ es = rw (← rules e es ss v .1) (take-append-seam es (drop (length es) noEvents)) in
+      subst (λ (x : List CompiledMmioEvent). valid (accepted e x ss) ≡ true → givenAccepted e (over es noEvents) (over (traceBytes ss) t) ≡ some (accepted e x ss)) p
+      (given-trace e (over es noEvents) ss t (f .2)) v
+
+  again : (w : Bool) → cond {A = Said} w done (refuses 14) ≡ done
+      → given (cond {A = RecordOutcome} w (acceptedOutcome e es) noOutcome) (cond w (over (traceBytes ss) t) t) ≡ some (accepted e es ss)
+  again true d = given-again
+  again false d = let z : _≡_ {A = ℕ} 0 1 = cc in absurd (omega arith)
+
+-- what was read stands for the record that was read
+pub read-write : (bs t : List ℕ) (x : Record) → AllBytes bs → decode bs ≡ some x → readAnswer (some x) (length t) ≡ done
+    → given (readOutcome (some x) (length t)) (readTrace (some x) t) ≡ some x
+read-write bs t (refused f) b e d = let s = decode-same bs b (refused f) e in rw (s .rules)
+read-write bs t (accepted h es ss) b e d =
+    let s = decode-same bs b (accepted h es ss) e in again h es ss t (s .fits) (s .rules) (leb (h .«symbolic_transitions» * 13) (length t)) d
+
+-- so it is written again byte for byte
+pub rewritten : (bs t out : List ℕ) (x : Record) → AllBytes bs → decode bs ≡ some x → readAnswer (some x) (length t) ≡ done → length bs ≤ length out
+    → (writeAnswer (given (readOutcome (some x) (length t)) (readTrace (some x) t)) (length out) ≡ wrote (length bs))
+    × (writeOutput (given (readOutcome (some x) (length t)) (readTrace (some x) t)) out ≡ over bs out)
+rewritten bs t out x b e d l =
+    let s = decode-same bs b x e in
+    let g = read-write bs t x b e d in
+    let n = le-leb (length bs) (length out) l in (
+      ap (λ (q : Option Record). writeAnswer q (length out)) g
+          ∙ ap (λ (y : List ℕ). cond {A = Said} (leb (length y) (length out)) (wrote (length y)) (refuses 16)) (s .bytes)
+          ∙ ap (λ (w : Bool). cond {A = Said} w (wrote (length bs)) (refuses 16)) n,
+      ap (λ (q : Option Record). writeOutput q out) g
+          ∙ ap (λ (y : List ℕ). cond (leb (length y) (length out)) (over y out) out) (s .bytes)
+          ∙ ap (λ (w : Bool). cond w (over bs out) out) n,
+    )

@@ -1,0 +1,21 @@
+use denote.Ref.{now}
+use borrow.Author.Needs.{needs}
+use Rattle.lane_record.proofs.ItemLaws.{entry-put}
+use Rattle.lane_record.proofs.items.put_entry.Statement.{statement}
+use Rattle.lane_record.proofs.items.put_entry.Tie as tie
+
+pub put-entry-spec : {M : Type 1} → statement M
+put-entry-spec =
+    tie.close
+    (tie.spec
+    (λ c κs. search needs)
+    (λ c. search needs)
+    (λ c κs. search needs)
+    (λ c. search needs)
+    (λ c κs. search needs)
+    (λ c. search needs)
+    (λ c κs. search needs)
+    (λ c. search needs)
+    (λ c.
+    let d4 = c .before .before in let d3 = d4 .before .before .before .before in let d2 = d3 .before .before .before .before in let d1 = d2 .before .before .before .before in let a = d1 .before .before .before .args in
+    entry-put (now (a .s)) (a .at) (a .step) (d1 .put-u32 .ensures) (d2 .put-u322 .ensures) (d3 .put-u8 .ensures) (d4 .put-u323 .ensures)))

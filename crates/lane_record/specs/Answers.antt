@@ -1,0 +1,146 @@
+-- What the writer and the reader answer and leave, for every input and every lent byte (document 01, "Record" and "Who causes a refusal").
+use mathlib.Core.Path.{_≡_}
+use mathlib.Core.Bool.{Bool, true, cond, _&&_}
+use mathlib.Core.Option.{Option, none, some}
+use mathlib.Core.List.{List}
+use Prim.Native.Nat.{ℕ, _*_, _≤_}
+use lib.Dec.{leb}
+use lib.ListN.{length, take, replicate}
+use Rattle.little_endian.specs.Lent.{over}
+use Rattle.predicate_semantics.specs.declared.CompiledMmioEvent.{CompiledMmioEvent}
+use Rattle.predicate_semantics.specs.declared.PredicateTransducerExecution.{PredicateTransducerExecution}
+use Rattle.predicate_semantics.specs.Trace.{traceBytes, stepsAt}
+use Rattle.lane_record.specs.declared.RecordRefusal.{RecordRefusal}
+use Rattle.lane_record.specs.declared.RecordAnswer.{RecordAnswer}
+use Rattle.lane_record.specs.declared.RecordAnswer.the-variants as answer
+use Rattle.lane_record.specs.declared.RecordOutcome.{RecordOutcome}
+use Rattle.lane_record.specs.declared.ReadAnswer.{ReadAnswer}
+use Rattle.lane_record.specs.declared.ReadAnswer.the-variants as read
+use Rattle.lane_record.specs.declared.RecordReading.{RecordReading}
+use Rattle.lane_record.specs.declared.WriteAnswer.{WriteAnswer}
+use Rattle.lane_record.specs.declared.WriteAnswer.the-variants as write
+use Rattle.lane_record.specs.Format.{Record, accepted, refused, encode, FitsRecord}
+use Rattle.lane_record.specs.Rules.{valid}
+use Rattle.lane_record.specs.Decode.{ruled, decode}
+
+-- an answer in document 01's numbers: done, so many bytes written, or refused with a number
+pub data Said : Type 0 where
+  done : Said
+  wrote : ℕ → Said
+  refuses : ℕ → Said
+
+-- the reader's answers by their numbers
+abbrev pub readSaid : ReadAnswer → Said
+readSaid read.Read = done
+readSaid read.RulesBroken = refuses 15
+readSaid read.TraceTooShort = refuses 14
+
+-- the writer's answers by their numbers
+abbrev pub writeSaid : WriteAnswer → Said
+writeSaid (write.Written n) = wrote n
+writeSaid write.RulesBroken = refuses 15
+writeSaid write.OutputTooShort = refuses 16
+
+-- ---- results
+
+abbrev pub noExecution : PredicateTransducerExecution
+noExecution =
+    record {
+      «first_input» = 0;
+      «lane_count» = 0;
+      «return_value» = 0;
+      «symbolic_transitions» = 0;
+      «lane_value_operations» = 0;
+      «sparse_memory_bytes» = 0;
+      «event_count» = 0;
+    }
+
+abbrev pub noEvent : CompiledMmioEvent
+noEvent = record { operation = 0; offset = 0; value = 0; location = 0 }
+
+abbrev pub noEvents : List CompiledMmioEvent
+noEvents = replicate 32 noEvent
+
+abbrev pub refusedOutcome : RecordRefusal → RecordOutcome
+refusedOutcome f = record { answer = answer.Refused f; execution = noExecution; events = noEvents }
+
+abbrev pub acceptedOutcome : PredicateTransducerExecution → List CompiledMmioEvent → RecordOutcome
+acceptedOutcome e es = record { answer = answer.Accepted; execution = e; events = over es noEvents }
+
+-- what the reader gives beside a refusal of its own: nothing, and 0 as a refusal's number
+abbrev pub noOutcome : RecordOutcome
+noOutcome = refusedOutcome (record { number = 0; role = 0; steps = 0 })
+
+abbrev pub refusedReading : ReadAnswer → RecordRefusal → RecordReading
+refusedReading a f = record { answer = a; outcome = refusedOutcome f }
+
+abbrev pub noReading : ReadAnswer → RecordReading
+noReading a = record { answer = a; outcome = noOutcome }
+
+-- ---- reading
+
+-- 15 where the bytes are no record, then 14 where the lent trace of n bytes is shorter than the record's steps
+abbrev pub readAnswer : Option Record → ℕ → Said
+readAnswer none n = refuses 15
+readAnswer (some (refused f)) n = done
+readAnswer (some (accepted e es ss)) n = cond (leb (e .«symbolic_transitions» * 13) n) done (refuses 14)
+
+-- the first item's fields and the events by value, zeros after the last
+abbrev pub readOutcome : Option Record → ℕ → RecordOutcome
+readOutcome none n = noOutcome
+readOutcome (some (refused f)) n = refusedOutcome f
+readOutcome (some (accepted e es ss)) n = cond (leb (e .«symbolic_transitions» * 13) n) (acceptedOutcome e es) noOutcome
+
+-- the steps in the lent trace, whose later entries stay untouched; 15 and 14 write nothing
+abbrev pub readTrace : Option Record → List ℕ → List ℕ
+readTrace none t = t
+readTrace (some (refused f)) t = t
+readTrace (some (accepted e es ss)) t = cond (leb (e .«symbolic_transitions» * 13) (length t)) (over (traceBytes ss) t) t
+
+pub record Reads (q : Option Record) (t : List ℕ) (r : RecordReading) (t′ : List ℕ) : Type 0 where
+  pub answer : readSaid (r .answer) ≡ readAnswer q (length t)
+  pub outcome : r .outcome ≡ readOutcome q (length t)
+  pub trace : t′ ≡ readTrace q t
+
+-- the reader takes bytes exactly where they are those of a record that keeps the rules
+pub record Exact (bs : List ℕ) : Type 0 where
+  pub sound : (x : Record) → decode bs ≡ some x → (encode x ≡ bs) × (valid x ≡ true) × FitsRecord x
+  pub complete : (x : Record) → encode x ≡ bs → valid x ≡ true → FitsRecord x → decode bs ≡ some x
+
+-- ---- writing
+
+-- the record of an accepted result: its first events, and the first entries of its trace
+abbrev pub acceptedGiven : PredicateTransducerExecution → List CompiledMmioEvent → List ℕ → Record
+acceptedGiven e es t = accepted e (take (e .«event_count») es) (stepsAt 0 (e .«symbolic_transitions») t)
+
+-- a trace shorter than the steps breaks the rules
+abbrev pub givenAccepted : PredicateTransducerExecution → List CompiledMmioEvent → List ℕ → Option Record
+givenAccepted e es t =
+    ruled (leb (e .«symbolic_transitions» * 13) (length t) && valid (acceptedGiven e es t)) (acceptedGiven e es t)
+
+abbrev pub givenRefused : RecordRefusal → Option Record
+givenRefused f = ruled (valid (refused f)) (refused f)
+
+abbrev pub givenBy : RecordAnswer → PredicateTransducerExecution → List CompiledMmioEvent → List ℕ → Option Record
+givenBy answer.Accepted e es t = givenAccepted e es t
+givenBy (answer.Refused f) e es t = givenRefused f
+
+-- the record that a result and a trace stand for, if they keep the rules
+abbrev pub given : RecordOutcome → List ℕ → Option Record
+given o t = givenBy (o .answer) (o .execution) (o .events) t
+
+-- 15 before 16; else the number of bytes written
+abbrev pub writeAnswer : Option Record → ℕ → Said
+writeAnswer none n = refuses 15
+writeAnswer (some x) n = cond (leb (length (encode x)) n) (wrote (length (encode x))) (refuses 16)
+
+-- the record's bytes, past which output is untouched; 15 and 16 write nothing
+abbrev pub writeOutput : Option Record → List ℕ → List ℕ
+writeOutput none out = out
+writeOutput (some x) out = cond (leb (length (encode x)) (length out)) (over (encode x) out) out
+
+pub record Writes (q : Option Record) (out : List ℕ) (r : WriteAnswer) (out′ : List ℕ) : Type 0 where
+  pub answer : writeSaid r ≡ writeAnswer q (length out)
+  pub output : out′ ≡ writeOutput q out
+  -- what was written reads back as itself
+  pub back : (x : Record) → q ≡ some x → length (encode x) ≤ length out → decode (take (length (encode x)) out′) ≡ some x

@@ -1,0 +1,6 @@
+-- The record: its bytes, its rules, and what its writer and its reader answer.
+pub mod Format
+pub mod Rules
+pub mod Decode
+pub mod Answers
+pub mod Runs

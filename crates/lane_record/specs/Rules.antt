@@ -1,0 +1,56 @@
+-- The record's rules (document 01, "Record"): the one definition that its writer and its reader cite.
+use mathlib.Core.Bool.{Bool, true, cond, _&&_, _||_}
+use mathlib.Core.List.{List, [], _∷_}
+use Prim.Native.Nat.{ℕ, _*_}
+use lib.Dec.{eqb, leb}
+use lib.ListN.{length}
+use Rattle.predicate_semantics.specs.declared.PredicateControlStep.{PredicateControlStep}
+use Rattle.predicate_semantics.specs.declared.PredicateTransducerExecution.{PredicateTransducerExecution}
+use Rattle.lane_record.specs.declared.RecordRefusal.{RecordRefusal}
+use Rattle.lane_record.specs.Format.{Record, accepted, refused}
+
+-- "low to high"
+abbrev pub within : ℕ → ℕ → ℕ → Bool
+within low x high = leb low x && leb x high
+
+-- 6, 250, steps 1 to 1,000,000, lane operations 250 × steps, written bytes 4 to 2,097,151, at most 32 events
+abbrev pub executionValid : PredicateTransducerExecution → Bool
+executionValid e =
+    eqb (e .«first_input») 6
+    && eqb (e .«lane_count») 250
+    && within 1 (e .«symbolic_transitions») 1000000
+    && eqb (e .«lane_value_operations») (250 * e .«symbolic_transitions»)
+    && within 4 (e .«sparse_memory_bytes») 2097151
+    && leb (e .«event_count») 32
+
+-- where the run ends
+abbrev pub stop : ℕ
+stop = 0x801FFFFC
+
+-- a step of length 2 or 4 that names the counter c as the next
+abbrev pub link : PredicateControlStep → ℕ → Bool
+link s c = (eqb (s .«instruction_bytes») 2 || eqb (s .«instruction_bytes») 4) && eqb (s .«next_program_counter») c
+
+-- the counter that steps begin at; without a step, the one that they end at
+abbrev pub begins : ℕ → List PredicateControlStep → ℕ
+begins end [] = end
+begins end (s ∷ ss) = s .«program_counter»
+
+-- each next counter equal to the following counter, the last equal to end
+abbrev pub linked : ℕ → List PredicateControlStep → Bool
+linked end [] = true
+linked end (s ∷ ss) = link s (begins end ss) && linked end ss
+
+-- a role of 1 to 10 for refusals 6 and 7, else 0
+abbrev pub roleValid : ℕ → ℕ → Bool
+roleValid number role = cond (eqb number 6 || eqb number 7) (within 1 role 10) (eqb role 0)
+
+-- refusal 1 to 14, its role, completed steps at most 1,000,000
+abbrev pub refusalValid : RecordRefusal → Bool
+refusalValid f = within 1 (f .number) 14 && roleValid (f .number) (f .role) && leb (f .steps) 1000000
+
+-- the rules, all of them; the first item says how many events and steps there are
+abbrev pub valid : Record → Bool
+valid (accepted e es ss) =
+    executionValid e && eqb (length es) (e .«event_count») && eqb (length ss) (e .«symbolic_transitions») && linked stop ss
+valid (refused f) = refusalValid f

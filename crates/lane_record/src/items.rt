@@ -1,0 +1,111 @@
+// The bodies of a record's items, read and written at their places.
+use super::RecordRefusal;
+use little_endian::get_u8;
+use little_endian::get_u16;
+use little_endian::get_u32;
+use little_endian::put_u8;
+use little_endian::put_u16;
+use little_endian::put_u32;
+use predicate_semantics::CompiledMmioEvent;
+use predicate_semantics::PredicateControlStep;
+use predicate_semantics::PredicateTransducerExecution;
+ghost use mathlib.Core.Path.{_≡_};
+ghost use Prim.Native.Nat.{_+_, _≤_};
+ghost use lib.ListN.{length, drop};
+ghost use lib.Seq.{sets};
+ghost use Rattle.little_endian.specs.Pack.{pack, unpack, Fits};
+ghost use Rattle.predicate_semantics.specs.Trace.{stepWidths, stepValues, stepOf};
+ghost use Rattle.lane_record.specs.Format.{heading, event, refusal, widths, item, executionValues, eventValues, eventOf, refusalValues};
+ghost use Rattle.lane_record.specs.Decode.{executionAt, refusalAt};
+
+pub fn execution_at(s: &[u8]) -> PredicateTransducerExecution
+    ensures { λ r. ⌜ r ≡ executionAt (now (s .entry)) ⌝ }
+{
+    PredicateTransducerExecution {
+        first_input: get_u8(s, 1),
+        lane_count: get_u16(s, 2),
+        return_value: get_u32(s, 4),
+        symbolic_transitions: get_u32(s, 8),
+        lane_value_operations: get_u32(s, 12),
+        sparse_memory_bytes: get_u32(s, 16),
+        event_count: get_u8(s, 20),
+    }
+}
+
+pub fn refusal_at(s: &[u8]) -> RecordRefusal
+    ensures { λ r. ⌜ r ≡ refusalAt (now (s .entry)) ⌝ }
+{
+    RecordRefusal {
+        number: get_u8(s, 1),
+        role: get_u8(s, 2),
+        steps: get_u32(s, 3),
+    }
+}
+
+pub fn event_at(s: &[u8], at: usize) -> CompiledMmioEvent
+    requires { ⌜ at + 16 ≤ length (now s) ⌝ }
+    ensures { λ r. ⌜ r ≡ eventOf (unpack (widths event) (drop at (now (s .entry)))) ⌝ }
+{
+    CompiledMmioEvent {
+        operation: get_u32(s, at),
+        offset: get_u32(s, at + 4),
+        value: get_u32(s, at + 8),
+        location: get_u32(s, at + 12),
+    }
+}
+
+pub fn step_at(s: &[u8], at: usize) -> PredicateControlStep
+    requires { ⌜ at + 13 ≤ length (now s) ⌝ }
+    ensures { λ r. ⌜ r ≡ stepOf (unpack stepWidths (drop at (now (s .entry)))) ⌝ }
+{
+    PredicateControlStep {
+        program_counter: get_u32(s, at),
+        instruction_word: get_u32(s, at + 4),
+        instruction_bytes: get_u8(s, at + 8),
+        next_program_counter: get_u32(s, at + 9),
+    }
+}
+
+pub fn put_execution(s: &mut [u8], e: PredicateTransducerExecution)
+    ensures { λ r. ⌜ now (s .exit) ≡ sets (now (s .entry)) 0 (item heading (executionValues e)) ⌝ }
+{
+    put_u8(s, 0, 0x01);
+    put_u8(s, 1, e.first_input);
+    put_u16(s, 2, e.lane_count);
+    put_u32(s, 4, e.return_value);
+    put_u32(s, 8, e.symbolic_transitions);
+    put_u32(s, 12, e.lane_value_operations);
+    put_u32(s, 16, e.sparse_memory_bytes);
+    put_u8(s, 20, e.event_count);
+}
+
+pub fn put_refusal(s: &mut [u8], f: RecordRefusal)
+    ensures { λ r. ⌜ now (s .exit) ≡ sets (now (s .entry)) 0 (item refusal (refusalValues f)) ⌝ }
+{
+    put_u8(s, 0, 0x7F);
+    put_u8(s, 1, f.number);
+    put_u8(s, 2, f.role);
+    put_u32(s, 3, f.steps);
+}
+
+// An event's numbers fit their places, which only its type says: so it is said here, where one is at hand.
+pub fn put_event(s: &mut [u8], at: usize, e: CompiledMmioEvent)
+    requires { ⌜ at + 17 ≤ length (now s) ⌝ }
+    ensures { λ r. ⌜ (now (s .exit) ≡ sets (now (s .entry)) at (item event (eventValues e))) × Fits (widths event) (eventValues e) ⌝ }
+{
+    put_u8(s, at, 0x02);
+    put_u32(s, at + 1, e.operation);
+    put_u32(s, at + 5, e.offset);
+    put_u32(s, at + 9, e.value);
+    put_u32(s, at + 13, e.location);
+}
+
+pub fn put_entry(s: &mut [u8], at: usize, step: PredicateControlStep)
+    requires { ⌜ at + 13 ≤ length (now s) ⌝ }
+    ensures { λ r. ⌜ now (s .exit) ≡ sets (now (s .entry)) at (pack stepWidths (stepValues step)) ⌝ }
+{
+    put_u32(s, at, step.program_counter);
+    put_u32(s, at + 4, step.instruction_word);
+    put_u8(s, at + 8, step.instruction_bytes);
+    put_u32(s, at + 9, step.next_program_counter);
+}

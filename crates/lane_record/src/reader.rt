@@ -1,0 +1,183 @@
+// Reading: every rule is tested before anything is written.
+use super::ReadAnswer;
+use super::RecordAnswer;
+use super::RecordOutcome;
+use super::RecordReading;
+use super::RecordRefusal;
+use super::items::event_at;
+use super::items::execution_at;
+use super::items::put_entry;
+use super::items::refusal_at;
+use super::items::step_at;
+use super::rules::and;
+use super::rules::execution_valid;
+use super::rules::refusal_valid;
+use super::rules::steps_linked;
+use predicate_semantics::CompiledMmioEvent;
+use predicate_semantics::PredicateTransducerExecution;
+ghost use mathlib.Core.Path.{_≡_};
+ghost use mathlib.Core.Bool.{_&&_};
+ghost use mathlib.Core.List.{List};
+ghost use Prim.Native.Nat.{ℕ, _+_, _*_, _≤_, _<_};
+ghost use lib.ListN.{length, drop};
+ghost use lib.Seq.{sets};
+ghost use Rattle.predicate_semantics.specs.Trace.{traceBytes, stepsAt};
+ghost use Rattle.lane_record.specs.Rules.{valid};
+ghost use Rattle.lane_record.specs.Decode.{executionAt, eventsAt, acceptedAt, acceptedForm, acceptedIn, refusedIn, marks};
+ghost use Rattle.lane_record.specs.Answers.{noEvents, refusedReading, noReading, Reads};
+
+// n bytes, each z from the one before, are all kind.
+fn kinds_are(s: &[u8], from: usize, kind: u8, z: usize, n: usize) -> bool
+    requires { ⌜ (0 < z) × (from + n * z ≤ length (now s)) ⌝ }
+    ensures { λ r. ⌜ r ≡ marks kind z n (drop from (now (s .entry))) ⌝ }
+{
+    let mut at = from;
+    let mut left = n;
+    while 0 < left {
+        if s[at] != kind {
+            return false;
+        }
+        at += z;
+        left -= 1;
+    }
+    true
+}
+
+// The length is tested first: it bounds every place that is looked at after it.
+fn accepted_form(s: &[u8], e: PredicateTransducerExecution) -> bool
+    ensures { λ r. ⌜ r ≡ (acceptedForm e (now (s .entry)) && valid (acceptedAt e (now (s .entry)))) ⌝ }
+{
+    let events = e.event_count as usize;
+    let steps = e.symbolic_transitions as usize;
+    let from = 21 + events * 17;
+    if s.len() != from + steps * 14 {
+        return false;
+    }
+    let headed = little_endian::get_u8(s, 0) == 0x01;
+    let listed = and(headed, kinds_are(s, 21, 0x02, 17, events));
+    let formed = and(listed, kinds_are(s, from, 0x03, 14, steps));
+    and(
+        formed,
+        and(execution_valid(e), steps_linked(s, from, 1, steps)),
+    )
+}
+
+fn take_events(s: &[u8], n: usize) -> [CompiledMmioEvent; 32]
+    requires { ⌜ (n ≤ 32) × (21 + n * 17 ≤ length (now s)) ⌝ }
+    ensures { λ r. ⌜ r ≡ sets noEvents 0 (eventsAt n (drop 21 (now (s .entry)))) ⌝ }
+{
+    let none = CompiledMmioEvent {
+        operation: 0,
+        offset: 0,
+        value: 0,
+        location: 0,
+    };
+    let mut events = [none; 32];
+    let mut k = 0;
+    let mut at = 21;
+    while k < n {
+        let e = event_at(s, at + 1);
+        events[k] = e;
+        k += 1;
+        at += 17;
+    }
+    events
+}
+
+fn take_steps(trace: &mut [u8], s: &[u8], start: usize, n: usize)
+    requires { ⌜ (n * 13 ≤ length (now trace)) × (start + n * 14 ≤ length (now s)) ⌝ }
+    ensures { λ r. ⌜ now (trace .exit) ≡ sets (now (trace .entry)) 0 (traceBytes (stepsAt 1 n (drop start (now (s .entry))))) ⌝ }
+{
+    let mut left = n;
+    let mut at = 0;
+    let mut from = start;
+    while 0 < left {
+        let step = step_at(s, from + 1);
+        put_entry(trace, at, step);
+        left -= 1;
+        at += 13;
+        from += 14;
+    }
+}
+
+fn refused_reading(answer: ReadAnswer, f: RecordRefusal) -> RecordReading
+    ensures { λ r. ⌜ r ≡ refusedReading answer f ⌝ }
+{
+    let none = CompiledMmioEvent {
+        operation: 0,
+        offset: 0,
+        value: 0,
+        location: 0,
+    };
+    let execution = PredicateTransducerExecution {
+        first_input: 0,
+        lane_count: 0,
+        return_value: 0,
+        symbolic_transitions: 0,
+        lane_value_operations: 0,
+        sparse_memory_bytes: 0,
+        event_count: 0,
+    };
+    let events = [none; 32];
+    let outcome = RecordOutcome {
+        answer: RecordAnswer::Refused(f),
+        execution: execution,
+        events: events,
+    };
+    RecordReading {
+        answer: answer,
+        outcome: outcome,
+    }
+}
+
+fn no_reading(answer: ReadAnswer) -> RecordReading
+    ensures { λ r. ⌜ r ≡ noReading answer ⌝ }
+{
+    refused_reading(
+        answer,
+        RecordRefusal {
+            number: 0,
+            role: 0,
+            steps: 0,
+        },
+    )
+}
+
+// Whatever trace is lent stays as it is.
+pub fn read_refused(bytes: &[u8]) -> RecordReading
+    ensures { λ r. ⌜ ((t : List ℕ) → Reads (refusedIn (now (bytes .entry))) t r t) ⌝ }
+{
+    if bytes.len() != 7 {
+        return no_reading(ReadAnswer::RulesBroken);
+    }
+    let refusal = refusal_at(bytes);
+    if !refusal_valid(refusal) {
+        return no_reading(ReadAnswer::RulesBroken);
+    }
+    refused_reading(ReadAnswer::Read, refusal)
+}
+
+pub fn read_accepted(bytes: &[u8], trace: &mut [u8]) -> RecordReading
+    ensures { λ r. ⌜ Reads (acceptedIn (executionAt (now (bytes .entry))) (now (bytes .entry))) (now (trace .entry)) r (now (trace .exit)) ⌝ }
+{
+    let execution = execution_at(bytes);
+    if !accepted_form(bytes, execution) {
+        return no_reading(ReadAnswer::RulesBroken);
+    }
+    let events = execution.event_count as usize;
+    let steps = execution.symbolic_transitions as usize;
+    if trace.len() < steps * 13 {
+        return no_reading(ReadAnswer::TraceTooShort);
+    }
+    take_steps(trace, bytes, 21 + events * 17, steps);
+    let list = take_events(bytes, events);
+    let outcome = RecordOutcome {
+        answer: RecordAnswer::Accepted,
+        execution: execution,
+        events: list,
+    };
+    RecordReading {
+        answer: ReadAnswer::Read,
+        outcome: outcome,
+    }
+}

@@ -1,0 +1,113 @@
+// The record's rules, as tests.
+use super::RecordRefusal;
+use super::items::step_at;
+use predicate_semantics::PredicateControlStep;
+use predicate_semantics::PredicateTransducerExecution;
+ghost use mathlib.Core.Path.{_≡_};
+ghost use mathlib.Core.Bool.{cond, _&&_, _||_};
+ghost use Prim.Native.Nat.{_+_, _*_, _≤_};
+ghost use lib.ListN.{length, drop};
+ghost use Rattle.predicate_semantics.specs.Trace.{stepsAt};
+ghost use Rattle.lane_record.specs.Rules as rules;
+
+// Where a run ends.
+const STOP: u32 = 0x801F_FFFC;
+
+// Called where an operator would part a function's one answer into several ways to prove.
+pub fn and(a: bool, b: bool) -> bool
+    ensures { λ r. ⌜ r ≡ (a && b) ⌝ }
+{
+    a && b
+}
+
+fn either(a: bool, b: bool) -> bool
+    ensures { λ r. ⌜ r ≡ (a || b) ⌝ }
+{
+    a || b
+}
+
+fn choose(test: bool, a: bool, b: bool) -> bool
+    ensures { λ r. ⌜ r ≡ cond test a b ⌝ }
+{
+    if test { a } else { b }
+}
+
+fn within(low: u32, x: u32, high: u32) -> bool
+    ensures { λ r. ⌜ r ≡ rules.within low x high ⌝ }
+{
+    and(low <= x, x <= high)
+}
+
+pub fn execution_valid(e: PredicateTransducerExecution) -> bool
+    ensures { λ r. ⌜ r ≡ rules.executionValid e ⌝ }
+{
+    let steps = e.symbolic_transitions;
+    let inputs = and(e.first_input == 6, e.lane_count == 250);
+    let bounded = and(inputs, within(1, steps, 1_000_000));
+    let counted = and(
+        bounded,
+        e.lane_value_operations as u64 == 250 * (steps as u64),
+    );
+    and(
+        and(counted, within(4, e.sparse_memory_bytes, 2_097_151)),
+        e.event_count <= 32,
+    )
+}
+
+fn role_valid(number: u8, role: u8) -> bool
+    ensures { λ r. ⌜ r ≡ rules.roleValid number role ⌝ }
+{
+    choose(
+        either(number == 6, number == 7),
+        within(1, role as u32, 10),
+        role == 0,
+    )
+}
+
+pub fn refusal_valid(f: RecordRefusal) -> bool
+    ensures { λ r. ⌜ r ≡ rules.refusalValid f ⌝ }
+{
+    and(
+        and(within(1, f.number as u32, 14), role_valid(f.number, f.role)),
+        f.steps <= 1_000_000,
+    )
+}
+
+fn links(step: PredicateControlStep, next: u32) -> bool
+    ensures { λ r. ⌜ r ≡ rules.link step next ⌝ }
+{
+    and(
+        either(step.instruction_bytes == 2, step.instruction_bytes == 4),
+        step.next_program_counter == next,
+    )
+}
+
+// The counter of the first of n steps, each after p other bytes; without a step, stop.
+fn begins_at(s: &[u8], from: usize, p: usize, n: usize) -> u32
+    requires { ⌜ from + n * (p + 13) ≤ length (now s) ⌝ }
+    ensures { λ r. ⌜ r ≡ rules.begins rules.stop (stepsAt p n (drop from (now (s .entry)))) ⌝ }
+{
+    if 0 < n {
+        little_endian::get_u32(s, from + p)
+    } else {
+        STOP
+    }
+}
+
+// n steps, each after p other bytes: 1 in a record, none in a trace.
+pub fn steps_linked(s: &[u8], from: usize, p: usize, n: usize) -> bool
+    requires { ⌜ from + n * (p + 13) ≤ length (now s) ⌝ }
+    ensures { λ r. ⌜ r ≡ rules.linked rules.stop (stepsAt p n (drop from (now (s .entry)))) ⌝ }
+{
+    let mut at = from;
+    let mut left = n;
+    while 0 < left {
+        let step = step_at(s, at + p);
+        at += p + 13;
+        left -= 1;
+        if !links(step, begins_at(s, at, p, left)) {
+            return false;
+        }
+    }
+    true
+}

@@ -1,0 +1,104 @@
+// Writing: the rules and then the output's length are tested before anything is written.
+use super::RecordRefusal;
+use super::WriteAnswer;
+use super::items::put_entry;
+use super::items::put_event;
+use super::items::put_execution;
+use super::items::put_refusal;
+use super::items::step_at;
+use super::rules::and;
+use super::rules::execution_valid;
+use super::rules::refusal_valid;
+use super::rules::steps_linked;
+use predicate_semantics::CompiledMmioEvent;
+use predicate_semantics::PredicateTransducerExecution;
+ghost use mathlib.Core.Path.{_≡_};
+ghost use mathlib.Core.Bool.{_&&_};
+ghost use mathlib.Core.List.{map};
+ghost use Prim.Native.Nat.{_+_, _*_, _≤_};
+ghost use lib.Dec.{leb};
+ghost use lib.ListN.{length, take};
+ghost use lib.Seq.{sets};
+ghost use Rattle.little_endian.specs.Pack.{AllFit};
+ghost use Rattle.predicate_semantics.specs.Trace.{stepValues, stepsAt};
+ghost use Rattle.lane_record.specs.Format.{event, step, widths, items, eventValues};
+ghost use Rattle.lane_record.specs.Rules.{executionValid, linked, stop};
+ghost use Rattle.lane_record.specs.Answers.{givenAccepted, givenRefused, Writes};
+
+fn put_events(s: &mut [u8], events: [CompiledMmioEvent; 32], n: usize)
+    requires { ⌜ (n ≤ 32) × (21 + n * 17 ≤ length (now s)) ⌝ }
+    ensures { λ r. ⌜ (now (s .exit) ≡ sets (now (s .entry)) 21 (items event (map eventValues (take n events)))) × AllFit (widths event) (map eventValues (take n events)) ⌝ }
+{
+    let mut k = 0;
+    let mut at = 21;
+    while k < n {
+        let e = events[k];
+        put_event(s, at, e);
+        k += 1;
+        at += 17;
+    }
+}
+
+fn put_steps(s: &mut [u8], to: usize, trace: &[u8], n: usize)
+    requires { ⌜ (to + n * 14 ≤ length (now s)) × (n * 13 ≤ length (now trace)) ⌝ }
+    ensures { λ r. ⌜ now (s .exit) ≡ sets (now (s .entry)) to (items step (map stepValues (stepsAt 0 n (now (trace .entry))))) ⌝ }
+{
+    let mut left = n;
+    let mut at = to;
+    let mut from = 0;
+    while 0 < left {
+        let entry = step_at(trace, from);
+        little_endian::put_u8(s, at, 0x03);
+        put_entry(s, at + 1, entry);
+        left -= 1;
+        at += 14;
+        from += 13;
+    }
+}
+
+fn writable(e: PredicateTransducerExecution, trace: &[u8]) -> bool
+    ensures { λ r. ⌜ r ≡ (leb (e .«symbolic_transitions» * 13) (length (now (trace .entry))) && (executionValid e && linked stop (stepsAt 0 (e .«symbolic_transitions») (now (trace .entry))))) ⌝ }
+{
+    let steps = e.symbolic_transitions as usize;
+    if trace.len() < steps * 13 {
+        return false;
+    }
+    and(execution_valid(e), steps_linked(trace, 0, 0, steps))
+}
+
+pub fn write_accepted(
+    e: PredicateTransducerExecution,
+    list: [CompiledMmioEvent; 32],
+    trace: &[u8],
+    output: &mut [u8],
+) -> WriteAnswer
+    ensures { λ r. ⌜ Writes (givenAccepted e list (now (trace .entry))) (now (output .entry)) r (now (output .exit)) ⌝ }
+{
+    if !writable(e, trace) {
+        return WriteAnswer::RulesBroken;
+    }
+    let events = e.event_count as usize;
+    let steps = e.symbolic_transitions as usize;
+    let from = 21 + events * 17;
+    let size = from + steps * 14;
+    if output.len() < size {
+        return WriteAnswer::OutputTooShort;
+    }
+    put_execution(output, e);
+    put_events(output, list, events);
+    put_steps(output, from, trace, steps);
+    WriteAnswer::Written(size)
+}
+
+pub fn write_refused(f: RecordRefusal, output: &mut [u8]) -> WriteAnswer
+    ensures { λ r. ⌜ Writes (givenRefused f) (now (output .entry)) r (now (output .exit)) ⌝ }
+{
+    if !refusal_valid(f) {
+        return WriteAnswer::RulesBroken;
+    }
+    if output.len() < 7 {
+        return WriteAnswer::OutputTooShort;
+    }
+    put_refusal(output, f);
+    WriteAnswer::Written(7)
+}
