@@ -1,10 +1,9 @@
 -- The element of a list at a place, and tests of numbers.
-use mathlib.Core.Path.{_≡_, refl, sym, _∙_, ap}
+use mathlib.Core.Path.{_≡_, refl, sym, _∙_}
 use mathlib.Core.Bool.{Bool, true, false, _&&_}
 use mathlib.Core.Option.{some, Option·some-injective}
 use mathlib.Core.List.{List, [], _∷_, map}
 use Prim.Native.Nat.{ℕ, zero, suc}
-use native.Mathlib.Omega.{arith}
 use lib.Dec.{T, eqb, eqb→eq}
 use lib.ListN.{getElem?, replicate, length}
 use Rattle.lane_word.specs.Word.{zip, every}
@@ -21,12 +20,6 @@ zip-at f [] ys k d e = cc
 zip-at f (x ∷ xs) [] k d e = cc
 zip-at f (x ∷ xs) (y ∷ ys) zero d e = cc
 zip-at f (x ∷ xs) (y ∷ ys) (suc k) d e = zip-at f xs ys k d e
-
-pub length-zip : (f : ℕ → ℕ → ℕ) (xs ys : List ℕ) {n : ℕ} → length xs ≡ n → length ys ≡ n → length (zip f xs ys) ≡ n
-unfolding zip
-length-zip f [] ys d e = d
-length-zip f (x ∷ xs) [] d e = e
-length-zip f (x ∷ xs) (y ∷ ys) d e = ap suc (length-zip f xs ys {n = length xs} refl (omega arith)) ∙ d
 
 pub replicate-at : (xs : List ℕ) (v k : ℕ) {x : ℕ} → getElem? xs k ≡ some x → getElem? (replicate (length xs) v) k ≡ some v
 replicate-at [] v k e = cc

@@ -10,6 +10,7 @@ use borrow.Author.Tests.{eqb-true, eqb-false}
 use Rattle.riscv32imc.specs.Bits.{join}
 use Rattle.lane_word.specs.declared.LaneWord.{LaneWord}
 use Rattle.lane_word.specs.Word.{unknown, constant, domain, unary, binary, every}
+use Rattle.lane_word.proofs.Tab.{length-zip}
 use Rattle.predicate_semantics.specs.Choice.{choose}
 use Rattle.predicate_semantics.specs.Program.{initial}
 use Rattle.predicate_semantics.specs.State.{assign, fill, atStart}
@@ -19,7 +20,7 @@ use Rattle.predicate_semantics.specs.Refusal.{passed, refuse}
 use Rattle.predicate_semantics.specs.Lane.{uniform}
 use Rattle.predicate_semantics.specs.Scalar.{Bytes}
 use Rattle.predicate_semantics.specs.Scalar as Scalar
-use Rattle.predicate_semantics.proofs.Lists.{map-at, zip-at, length-zip, replicate-at, both-left, both-right, every-at}
+use Rattle.predicate_semantics.proofs.Lists.{map-at, zip-at, replicate-at, both-left, both-right, every-at}
 use Rattle.predicate_semantics.proofs.Sim.{Sim, stops, agrees}
 
 -- w has n lanes, and its lane k is v, if it is known
@@ -37,7 +38,7 @@ at-unary {k = k} f {w} h = record {
 pub at-binary : {n k : ℕ} (f : ℕ → ℕ → ℕ) {a b : LaneWord} {u v : ℕ} → At n k a u → At n k b v → At n k (binary f a b) (f u v)
 unfolding binary
 at-binary {k = k} f {a} {b} h g = record {
-  size = length-zip f (a .values) (b .values) (h .size) (g .size);
+  size = length-zip f (a .values) (b .values) (h .size ∙ sym (g .size)) ∙ h .size;
   value = λ t.
       zip-at f (a .values) (b .values) k (h .value (both-left (a .known) (b .known) t)) (g .value (both-right (a .known) (b .known) t));
 }
