@@ -86,7 +86,7 @@ impl LaneWord {
     }
 
     // An operation of the two values of each lane.
-    pub fn map_binary(self, right: LaneWord, operation: Binary) -> LaneWord
+    fn zip(self, right: LaneWord, operation: Binary) -> LaneWord
         ensures { λ r. ⌜ r ≡ binary (valueOf operation) self right ⌝ }
     {
         let left = self.values;
@@ -106,116 +106,116 @@ impl LaneWord {
     pub fn add(self, right: LaneWord) -> LaneWord
         ensures { λ r. ⌜ r ≡ binary add self right ⌝ }
     {
-        self.map_binary(right, Binary::Add)
+        self.zip(right, Binary::Add)
     }
 
     pub fn sub(self, right: LaneWord) -> LaneWord
         ensures { λ r. ⌜ r ≡ binary sub self right ⌝ }
     {
-        self.map_binary(right, Binary::Sub)
+        self.zip(right, Binary::Sub)
     }
 
     pub fn sll(self, right: LaneWord) -> LaneWord
         ensures { λ r. ⌜ r ≡ binary sll self right ⌝ }
     {
-        self.map_binary(right, Binary::Sll)
+        self.zip(right, Binary::Sll)
     }
 
     pub fn slt(self, right: LaneWord) -> LaneWord
         ensures { λ r. ⌜ r ≡ binary slt self right ⌝ }
     {
-        self.map_binary(right, Binary::Slt)
+        self.zip(right, Binary::Slt)
     }
 
     pub fn sltu(self, right: LaneWord) -> LaneWord
         ensures { λ r. ⌜ r ≡ binary sltu self right ⌝ }
     {
-        self.map_binary(right, Binary::Sltu)
+        self.zip(right, Binary::Sltu)
     }
 
     pub fn xor(self, right: LaneWord) -> LaneWord
         ensures { λ r. ⌜ r ≡ binary xor self right ⌝ }
     {
-        self.map_binary(right, Binary::Xor)
+        self.zip(right, Binary::Xor)
     }
 
     pub fn srl(self, right: LaneWord) -> LaneWord
         ensures { λ r. ⌜ r ≡ binary srl self right ⌝ }
     {
-        self.map_binary(right, Binary::Srl)
+        self.zip(right, Binary::Srl)
     }
 
     pub fn sra(self, right: LaneWord) -> LaneWord
         ensures { λ r. ⌜ r ≡ binary sra self right ⌝ }
     {
-        self.map_binary(right, Binary::Sra)
+        self.zip(right, Binary::Sra)
     }
 
     pub fn or(self, right: LaneWord) -> LaneWord
         ensures { λ r. ⌜ r ≡ binary or self right ⌝ }
     {
-        self.map_binary(right, Binary::Or)
+        self.zip(right, Binary::Or)
     }
 
     pub fn and(self, right: LaneWord) -> LaneWord
         ensures { λ r. ⌜ r ≡ binary and self right ⌝ }
     {
-        self.map_binary(right, Binary::And)
+        self.zip(right, Binary::And)
     }
 
     pub fn mul(self, right: LaneWord) -> LaneWord
         ensures { λ r. ⌜ r ≡ binary mul self right ⌝ }
     {
-        self.map_binary(right, Binary::Mul)
+        self.zip(right, Binary::Mul)
     }
 
     pub fn div(self, right: LaneWord) -> LaneWord
         ensures { λ r. ⌜ r ≡ binary div self right ⌝ }
     {
-        self.map_binary(right, Binary::Div)
+        self.zip(right, Binary::Div)
     }
 
     pub fn divu(self, right: LaneWord) -> LaneWord
         ensures { λ r. ⌜ r ≡ binary divu self right ⌝ }
     {
-        self.map_binary(right, Binary::Divu)
+        self.zip(right, Binary::Divu)
     }
 
     pub fn rem(self, right: LaneWord) -> LaneWord
         ensures { λ r. ⌜ r ≡ binary rem self right ⌝ }
     {
-        self.map_binary(right, Binary::Rem)
+        self.zip(right, Binary::Rem)
     }
 
     pub fn remu(self, right: LaneWord) -> LaneWord
         ensures { λ r. ⌜ r ≡ binary remu self right ⌝ }
     {
-        self.map_binary(right, Binary::Remu)
+        self.zip(right, Binary::Remu)
     }
 
     // The branch tests, 1 where the branch is taken; BLT and BLTU have those of SLT and SLTU.
     pub fn eq(self, right: LaneWord) -> LaneWord
         ensures { λ r. ⌜ r ≡ binary beq self right ⌝ }
     {
-        self.map_binary(right, Binary::Eq)
+        self.zip(right, Binary::Eq)
     }
 
     pub fn ne(self, right: LaneWord) -> LaneWord
         ensures { λ r. ⌜ r ≡ binary bne self right ⌝ }
     {
-        self.map_binary(right, Binary::Ne)
+        self.zip(right, Binary::Ne)
     }
 
     pub fn ge(self, right: LaneWord) -> LaneWord
         ensures { λ r. ⌜ r ≡ binary bge self right ⌝ }
     {
-        self.map_binary(right, Binary::Ge)
+        self.zip(right, Binary::Ge)
     }
 
     pub fn geu(self, right: LaneWord) -> LaneWord
         ensures { λ r. ⌜ r ≡ binary bgeu self right ⌝ }
     {
-        self.map_binary(right, Binary::Geu)
+        self.zip(right, Binary::Geu)
     }
 
     // An address: the base and an offset.
@@ -250,7 +250,38 @@ impl LaneWord {
     pub fn join(self, high: LaneWord) -> LaneWord
         ensures { λ r. ⌜ r ≡ binary join self high ⌝ }
     {
-        self.map_binary(high, Binary::Join)
+        self.zip(high, Binary::Join)
+    }
+
+    // The operation is chosen once for all lanes, so that each loop knows its own.
+    pub fn map_binary(self, right: LaneWord, operation: Binary) -> LaneWord
+        ensures { λ r. ⌜ r ≡ binary (valueOf operation) self right ⌝ }
+    {
+        match operation {
+            Binary::Add => self.add(right),
+            Binary::Sub => self.sub(right),
+            Binary::Sll => self.sll(right),
+            Binary::Slt => self.slt(right),
+            Binary::Sltu => self.sltu(right),
+            Binary::Xor => self.xor(right),
+            Binary::Srl => self.srl(right),
+            Binary::Sra => self.sra(right),
+            Binary::Or => self.or(right),
+            Binary::And => self.and(right),
+            Binary::Mul => self.mul(right),
+            Binary::Div => self.div(right),
+            Binary::Divu => self.divu(right),
+            Binary::Rem => self.rem(right),
+            Binary::Remu => self.remu(right),
+            Binary::Eq => self.eq(right),
+            Binary::Ne => self.ne(right),
+            Binary::Ge => self.ge(right),
+            Binary::Geu => self.geu(right),
+            Binary::Join => self.join(right),
+            Binary::Target => self.zip(right, Binary::Target),
+            Binary::SignExtend => self.zip(right, Binary::SignExtend),
+            Binary::Byte => self.zip(right, Binary::Byte),
+        }
     }
 
     // The value that all lanes share: unknown is tested first, then the values, up to the first unlike lane 0's.

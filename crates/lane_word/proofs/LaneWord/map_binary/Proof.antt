@@ -1,32 +1,54 @@
-use Prim.Native.Nat.{_-_}
 use borrow.Author.Needs.{needs}
-use lib.ListN.{getD}
-use Rattle.riscv32imc.specs.Value.{valueOf}
-use Rattle.lane_word.specs.Word.{binary}
-use Rattle.lane_word.proofs.Tab.{Tab, tab-start, tab-step, tab-zip}
 use Rattle.lane_word.proofs.LaneWord.map_binary.Statement.{statement}
 use Rattle.lane_word.proofs.LaneWord.map_binary.Tie as tie
 
-abbrev I : tie.InvT-loop
-I self right operation left other out₀ k₀ out k = Tab (λ i. valueOf operation (getD left i 0) (getD other i 0)) 250 out k
-
 pub map-binary-spec : {M : Type 1} → statement M
-unfolding binary
 map-binary-spec =
     tie.close
-    (tie.spec I (λ self right operation left other out₀ k₀ out k. 250 - k)
-    (λ c. tab-start (search needs))
-    (λ c. search needs)
-    (λ c. search needs)
-    (λ c. search needs)
-    (λ c. search needs)
-    (λ c κs. search needs)
-    (λ c. search needs)
-    (λ c. search needs)
-    (λ c. search needs)
-    (λ c. search needs)
-    (λ c. tab-step (c .before .before .loop .inv) (c .before .loop-test .taken) (c .value .ensures))
-    (λ c κs. search needs)
-    (λ c.
-    let a = c .before .before .before .before .before .args in
-    cc (tab-zip (valueOf (a .operation)) (a .self .values) (a .right .values) (c .before .before .loop .inv) (c .before .loop-test .left) (search needs) (search needs))))
+    (tie.spec
+    (λ c. search needs) (λ c κs. search needs)
+    (λ c. search needs) (λ c κs. search needs)
+    (λ c. search needs) (λ c κs. search needs)
+    (λ c. search needs) (λ c κs. search needs)
+    (λ c. search needs) (λ c κs. search needs)
+    (λ c. search needs) (λ c κs. search needs)
+    (λ c. search needs) (λ c κs. search needs)
+    (λ c. search needs) (λ c κs. search needs)
+    (λ c. search needs) (λ c κs. search needs)
+    (λ c. search needs) (λ c κs. search needs)
+    (λ c. search needs) (λ c κs. search needs)
+    (λ c. search needs) (λ c κs. search needs)
+    (λ c. search needs) (λ c κs. search needs)
+    (λ c. search needs) (λ c κs. search needs)
+    (λ c. search needs) (λ c κs. search needs)
+    (λ c. search needs) (λ c κs. search needs)
+    (λ c. search needs) (λ c κs. search needs)
+    (λ c. search needs) (λ c κs. search needs)
+    (λ c. search needs) (λ c κs. search needs)
+    (λ c. search needs) (λ c κs. search needs)
+    (λ c. search needs) (λ c κs. search needs)
+    (λ c. search needs) (λ c κs. search needs)
+    (λ c. search needs) (λ c κs. search needs)
+    (λ c. rw (c .before .enum-told .given .1) (c .add .ensures))
+    (λ c. rw (c .before .enum-told2 .given .1) (c .sub .ensures))
+    (λ c. rw (c .before .enum-told3 .given .1) (c .sll .ensures))
+    (λ c. rw (c .before .enum-told4 .given .1) (c .slt .ensures))
+    (λ c. rw (c .before .enum-told5 .given .1) (c .sltu .ensures))
+    (λ c. rw (c .before .enum-told6 .given .1) (c .xor .ensures))
+    (λ c. rw (c .before .enum-told7 .given .1) (c .srl .ensures))
+    (λ c. rw (c .before .enum-told8 .given .1) (c .sra .ensures))
+    (λ c. rw (c .before .enum-told9 .given .1) (c .or .ensures))
+    (λ c. rw (c .before .enum-told10 .given .1) (c .and .ensures))
+    (λ c. rw (c .before .enum-told11 .given .1) (c .mul .ensures))
+    (λ c. rw (c .before .enum-told12 .given .1) (c .div .ensures))
+    (λ c. rw (c .before .enum-told13 .given .1) (c .divu .ensures))
+    (λ c. rw (c .before .enum-told14 .given .1) (c .rem .ensures))
+    (λ c. rw (c .before .enum-told15 .given .1) (c .remu .ensures))
+    (λ c. rw (c .before .enum-told16 .given .1) (c .eq .ensures))
+    (λ c. rw (c .before .enum-told17 .given .1) (c .ne .ensures))
+    (λ c. rw (c .before .enum-told18 .given .1) (c .ge .ensures))
+    (λ c. rw (c .before .enum-told19 .given .1) (c .geu .ensures))
+    (λ c. rw (c .before .enum-told20 .given .1) (c .join .ensures))
+    (λ c. rw (c .before .enum-told21 .given .1) (c .zip .ensures))
+    (λ c. rw (c .before .enum-told22 .given .1) (c .zip2 .ensures))
+    (λ c. rw (c .before .enum-told23 .given .1) (c .zip3 .ensures)))
