@@ -125,3 +125,28 @@ pub numbered : (n w : ℕ) (o : Operation) → operationOf n w ≡ Known o → n
 unfolding operationOf listing counted operation numberOf
 numbered zero w o e = let z : _≡_ {A = ℕ} 0 1 = cc in omega arith
 numbered (suc n) w o e = counted-at 1 listing n w o tt e ∙ suc-add 0 n ∙ ap suc (zero-add n)
+
+-- a test of operations, on the one that each line makes of the word
+abbrev pub allLines : (Operation → Bool) → List Line → ℕ → Bool
+allLines q [] w = true
+allLines q (l ∷ ls) w = q (operation l w) && allLines q ls w
+
+-- the test of what a word decodes to; a refused word has nothing to test
+abbrev passes : (Operation → Bool) → Decoded → Bool
+passes q (Known o) = q o
+passes q Refused = true
+
+line-passes : (q : Operation → Bool) (b : Bool) (o : Operation) (d : Decoded) → T (q o) → T (passes q d) → T (passes q (cond b (Known o) d))
+line-passes q true o d t u = t
+line-passes q false o d t u = u
+
+listed-passes : (q : Operation → Bool) (ls : List Line) (w : ℕ) → T (allLines q ls w) → T (passes q (decodeListed ls w))
+unfolding decodeListed
+listed-passes q [] w t = tt
+listed-passes q (l ∷ ls) w t =
+    line-passes q (has (fixed l) w) (operation l w) (decodeListed ls w) (and-l (q (operation l w)) (allLines q ls w) t)
+    (listed-passes q ls w (and-r (q (operation l w)) (allLines q ls w) t))
+
+-- a test that every line's operation passes, the decoded one passes
+pub decoded-passes : (q : Operation → Bool) (w : ℕ) (o : Operation) → T (allLines q listing w) → decodeOf w ≡ Known o → T (q o)
+decoded-passes q w o t e = subst (λ (d : Decoded). T (passes q d)) (sym (decode-listed w) ∙ e) (listed-passes q listing w t)

@@ -1,0 +1,2 @@
+-- What is proved of the actions of decoded operations.
+pub mod Sources

@@ -1,0 +1,96 @@
+-- The registers that the action of a decoded operation reads are below 32, so that they index the run's registers. Assumes nothing.
+use mathlib.Core.Bool.{Bool, _&&_}
+use mathlib.Core.Path.{_≡_, refl, sym, ap, subst, _∙_}
+use mathlib.Core.List.{List}
+use Prim.Native.Nat.{ℕ, _<_}
+use native.Mathlib.Omega.{arith}
+use borrow.Author.Tests.{lt-ltb}
+use lib.Dec.{T, ltb, ltb→lt}
+use lib.Ieee.Fits.{and-l, and-r}
+use Rattle.riscv_decode.specs.declared.Operation.{Operation}
+use Rattle.riscv_decode.specs.declared.Decoded.{Decoded}
+use Rattle.riscv_decode.specs.declared.Decoded.the-variants.{Known, Refused}
+use Rattle.riscv_decode.specs.declared.Fetched.{Fetched}
+use Rattle.riscv_decode.specs.Operands.{rs1Field, rs2Field}
+use Rattle.riscv_decode.specs.Listing.{listing, operation}
+use Rattle.riscv_decode.specs.Decode.{decodeOf}
+use Rattle.riscv_decode.proofs.Listed.{allLines, decoded-passes}
+use Rattle.predicate_semantics.specs.Meaning.{register, immediate, Meaning, nothing, literal, compute, jump, jumpTo, branch, load, store, meaning}
+use Rattle.predicate_semantics.specs.Memory.{LaneBytes}
+use Rattle.predicate_semantics.specs.Refusal.{Tested, passed, refused, refuse, found, _>>=_}
+use Rattle.predicate_semantics.specs.Lane.{fetchWord, fetch}
+use Rattle.predicate_semantics.specs.Standing.{decodedOperation, standingCore}
+use Rattle.predicate_action.specs.Action.{meaningOf, firstSource, secondSource}
+use Rattle.predicate_action.specs.declared.Action.{Action}
+use Rattle.predicate_action.specs.declared.Action.the-variants.{Nothing, Literal, Compute, ComputeImmediate, Jump, JumpTo, Branch, Load, Store}
+
+-- the sources of a form, 0 where it has none
+abbrev sources : Meaning → ℕ × ℕ
+sources nothing = (0, 0)
+sources (literal rd v) = (0, 0)
+sources (compute rd f a (register b)) = (a, b)
+sources (compute rd f a (immediate n)) = (a, 0)
+sources (jump rd to) = (0, 0)
+sources (jumpTo rd a offset) = (a, 0)
+sources (branch test a b to) = (a, b)
+sources (load rd a offset n extend) = (a, 0)
+sources (store a b offset n) = (a, b)
+
+action-sources : (a : Action) → sources (meaningOf a) ≡ (firstSource a, secondSource a)
+action-sources Nothing = refl
+action-sources (Literal rd v) = refl
+action-sources (Compute rd f a b) = refl
+action-sources (ComputeImmediate rd f a n) = refl
+action-sources (Jump rd to) = refl
+action-sources (JumpTo rd a offset) = refl
+action-sources (Branch test a b to) = refl
+action-sources (Load rd a offset n e) = refl
+action-sources (Store a b offset n) = refl
+
+-- both below 32, as a test
+abbrev registers : ℕ × ℕ → Bool
+registers s = ltb (s .0) 32 && ltb (s .1) 32
+
+both-below : (s : ℕ × ℕ) → T (registers s) → (s .0 < 32) × (s .1 < 32)
+both-below s t = (
+  ltb→lt (s .0) 32 (and-l (ltb (s .0) 32) (ltb (s .1) 32) t),
+  ltb→lt (s .1) 32 (and-r (ltb (s .0) 32) (ltb (s .1) 32) t),
+)
+
+-- the sources of each line's operation are fields of the word, of 5 bits each, or 0
+lines-below : (w pc : ℕ) → T (allLines (λ o. registers (sources (meaning o pc))) listing w)
+unfolding listing operation meaning
+lines-below w pc = rw (lt-ltb (rs1Field w) 32 (omega arith), lt-ltb (rs2Field w) 32 (omega arith)) tt
+
+-- the action of a decoded operation, at any program counter, reads registers below 32
+pub sources-below : (w pc : ℕ) (o : Operation) (a : Action) → decodeOf w ≡ Known o → meaningOf a ≡ meaning o pc → (firstSource a < 32) × (secondSource a < 32)
+sources-below w pc o a d e =
+    subst (λ (s : ℕ × ℕ). (s .0 < 32) × (s .1 < 32)) (ap sources (sym e) ∙ action-sources a)
+    (both-below (sources (meaning o pc)) (decoded-passes (λ o. registers (sources (meaning o pc))) w o (lines-below w pc) d))
+
+-- what is fetched is what its word decodes to
+abbrev Decodes : Tested Fetched → Type 0
+Decodes (passed f) = decodeOf (f .word) ≡ Known (f .operation)
+Decodes (refused r) = Unit {0}
+
+abbrev fetchedOf : ℕ × ℕ → Decoded → Tested Fetched
+fetchedOf w d = found 9 (decodedOperation d) >>= λ o. passed (record { operation = o; length = w .1; word = w .0 })
+
+known-decodes : (w : ℕ × ℕ) (d : Decoded) → decodeOf (w .0) ≡ d → Decodes (fetchedOf w d)
+unfolding _>>=_ found refuse decodedOperation
+known-decodes w (Known o) e = e
+known-decodes w Refused e = tt
+
+word-decodes : (t : Tested (ℕ × ℕ)) → Decodes (t >>= λ w. fetchedOf w (decodeOf (w .0)))
+unfolding _>>=_
+word-decodes (passed w) = known-decodes w (decodeOf (w .0)) refl
+word-decodes (refused r) = tt
+
+fetched-decodes : (inputs : List ℕ) (m : LaneBytes) (steps pc : ℕ) (f : Fetched) → fetch inputs standingCore m steps pc ≡ passed f → decodeOf (f .word) ≡ Known (f .operation)
+unfolding fetch standingCore
+fetched-decodes inputs m steps pc f e = subst Decodes e (word-decodes (fetchWord inputs standingCore m pc))
+
+-- the same of a fetched operation
+pub fetched-sources : (inputs : List ℕ) (m : LaneBytes) (steps pc at : ℕ) (f : Fetched) (a : Action)
+    → fetch inputs standingCore m steps pc ≡ passed f → meaningOf a ≡ meaning (f .operation) at → (firstSource a < 32) × (secondSource a < 32)
+fetched-sources inputs m steps pc at f a e = sources-below (f .word) at (f .operation) a (fetched-decodes inputs m steps pc f e)
