@@ -15,7 +15,9 @@ use Rattle.little_endian.proofs.SetLaws.{sets-append, sets-over}
 use Rattle.predicate_semantics.specs.declared.PredicateControlStep.{PredicateControlStep}
 use Rattle.predicate_semantics.specs.declared.CompiledMmioEvent.{CompiledMmioEvent}
 use Rattle.predicate_semantics.specs.declared.PredicateTransducerExecution.{PredicateTransducerExecution}
+use Rattle.predicate_semantics.specs.Blank.{noEvents}
 use Rattle.predicate_semantics.specs.Trace.{stepValues, traceBytes, stepsAt}
+use Rattle.predicate_semantics.proofs.TraceLaws.{length-trace}
 use Rattle.lane_record.specs.declared.RecordRefusal.{RecordRefusal}
 use Rattle.lane_record.specs.declared.RecordAnswer.the-variants as answer
 use Rattle.lane_record.specs.declared.ReadAnswer.the-variants as read
@@ -24,7 +26,7 @@ use Rattle.lane_record.specs.declared.WriteAnswer.the-variants as write
 use Rattle.lane_record.specs.Format.{heading, event, step, item, items, Record, accepted, refused, executionValues, eventValues, encode, FitsRecord}
 use Rattle.lane_record.specs.Rules.{executionValid, refusalValid, linked, stop, valid}
 use Rattle.lane_record.specs.Decode.{executionAt, eventsAt, refusalAt, stepsFrom, acceptedAt, marked, acceptedForm, ruled, refusedIn, acceptedIn, decode}
-use Rattle.lane_record.specs.Answers.{Said, done, wrote, refuses, noEvents, refusedReading, noReading, Reads, Exact, acceptedGiven, givenAccepted, Writes}
+use Rattle.lane_record.specs.Answers.{Said, done, wrote, refuses, refusedReading, noReading, Reads, Exact, acceptedGiven, givenAccepted, Writes}
 use Rattle.lane_record.proofs.TestLaws.{both, always}
 use Rattle.lane_record.proofs.DecodeLaws.{length-eventsAt, length-stepsAt, decode-encode, rules, Formed, form, Same, decode-same, decode-only}
 
@@ -36,10 +38,6 @@ few-events : (e : PredicateTransducerExecution) → executionValid e ≡ true �
 few-events e v = few-cases e (leb (e .«event_count») 32) refl v
 
 -- ---- lengths
-pub length-trace : (ss : List PredicateControlStep) → length (traceBytes ss) ≡ length ss * 13
-length-trace [] = refl
-length-trace (s ∷ ss) = omega (arith, length-trace ss)
-
 length-events : (es : List CompiledMmioEvent) → length (items event (map eventValues es)) ≡ length es * 17
 length-events [] = refl
 length-events (e ∷ es) = omega (arith, length-events es)

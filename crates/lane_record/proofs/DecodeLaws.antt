@@ -19,6 +19,7 @@ use Rattle.predicate_semantics.specs.declared.PredicateControlStep.{PredicateCo
 use Rattle.predicate_semantics.specs.declared.CompiledMmioEvent.{CompiledMmioEvent}
 use Rattle.predicate_semantics.specs.declared.PredicateTransducerExecution.{PredicateTransducerExecution}
 use Rattle.predicate_semantics.specs.Trace.{stepWidths, stepValues, stepOf, stepsAt}
+use Rattle.predicate_semantics.proofs.TraceLaws.{steps-values}
 use Rattle.lane_record.specs.declared.RecordRefusal.{RecordRefusal}
 use Rattle.lane_record.specs.Format.{Kind, heading, event, step, refusal, mark, widths, size, item, items, Record, accepted, refused, executionValues, executionOf, eventValues, eventOf, refusalValues, refusalOf, encode, FitsRecord}
 use Rattle.lane_record.specs.Rules.{executionValid, refusalValid, valid, linked, stop}
@@ -34,10 +35,6 @@ ruled-some false r x e = let z : _≡_ {A = ℕ} 0 1 = cc in absurd (omega arith
 events-values : (es : List CompiledMmioEvent) → map eventOf (map eventValues es) ≡ es
 events-values [] = refl
 events-values (e ∷ es) = ap (λ (r : List CompiledMmioEvent). e ∷ r) (events-values es)
-
-pub steps-values : (ss : List PredicateControlStep) → map stepOf (map stepValues ss) ≡ ss
-steps-values [] = refl
-steps-values (s ∷ ss) = ap (λ (r : List PredicateControlStep). s ∷ r) (steps-values ss)
 
 values-events : (n : ℕ) (bs : List ℕ) → map eventValues (eventsAt n bs) ≡ unpacks 1 (widths event) n bs
 values-events zero bs = refl

@@ -64,11 +64,3 @@ module _ (l : List ℕ) where
       let n9 : i + 9 ≡ suc (suc (suc (suc (suc (i + 4))))) = omega arith in
       let n13 : i + 13 ≡ suc (suc (suc (suc (suc (i + 8))))) = omega arith in
       rw (p5, p4, p3, p2, p1, add-one i, add-five i, n9, n13, add-four i, add-eight i)
-
-  pub entry-put : {l1 l2 l3 l4 : List ℕ} (i : ℕ) (s : PredicateControlStep)
-      → l1 ≡ sets l i (number.bytes 4 (s .«program_counter»)) → l2 ≡ sets l1 (i + 4) (number.bytes 4 (s .«instruction_word»))
-      → l3 ≡ sets l2 (i + 8) (number.bytes 1 (s .«instruction_bytes»)) → l4 ≡ sets l3 (i + 9) (number.bytes 4 (s .«next_program_counter»))
-      → l4 ≡ sets l i (pack stepWidths (stepValues s))
-  entry-put i s p1 p2 p3 p4 =
-      let n9 : i + 9 ≡ suc (i + 8) = omega arith in
-      rw (p4, p3, p2, p1, n9, add-eight i, add-four i)

@@ -3,14 +3,13 @@ use mathlib.Core.Path.{_≡_, refl, sym, ap, _∙_, subst}
 use mathlib.Core.Bool.{Bool, true, false, cond, _&&_, _||_}
 use mathlib.Core.Logic.{_⊎_, ⊎-elim}
 use mathlib.Core.Option.{some}
-use mathlib.Core.List.{List, [], _∷_, _++_, map}
-use Prim.Native.Nat.{ℕ, zero, suc, _*_, _≤_, _<_, _^_}
+use mathlib.Core.List.{List, [], _∷_}
+use Prim.Native.Nat.{ℕ, _*_}
 use native.Mathlib.Omega.{arith}
 use lib.Dec.{T, leb, eqb}
 use lib.ListN.{length, take, drop}
 use lib.Seq.{take-append-seam}
 use borrow.Author.Tests.{le-leb, eq-eqb}
-use Rattle.little_endian.specs.Pack.{AllFit}
 use Rattle.little_endian.specs.Lent.{over}
 use Rattle.riscv32imc.specs.Constants.{maxSteps}
 use Rattle.lane_word.specs.Word.{inputs}
@@ -22,16 +21,17 @@ use Rattle.predicate_semantics.specs.State.{Result}
 use Rattle.predicate_semantics.specs.Refusal.{Tested, passed}
 use Rattle.predicate_semantics.specs.Refusal as Refusal
 use Rattle.predicate_semantics.specs.Lane.{LaneState, Setup, Ended, lanes, laneOperations, writtenBytes, execution}
-use Rattle.predicate_semantics.specs.RecordRules.{Chain, Words, Completed, Accepted, proper}
+use Rattle.predicate_semantics.specs.RecordRules.{Chain, Completed, Accepted, proper}
 use Rattle.predicate_semantics.specs.Standing.{standing, setup, standingLaneRun}
-use Rattle.predicate_semantics.specs.Trace.{stepValues, traceBytes}
-use Rattle.predicate_semantics.proofs.RecordRules.{completed, refused-proper, takes-step}
+use Rattle.predicate_semantics.specs.Blank.{noEvents}
+use Rattle.predicate_semantics.specs.Trace.{traceBytes}
+use Rattle.predicate_semantics.proofs.RecordRules.{refused-proper, takes-step}
 use Rattle.predicate_semantics.proofs.RecordRules as Rules
-use Rattle.predicate_semantics.proofs.ExpandedWords.{standing-expands-to-words}
-use Rattle.lane_record.specs.Format.{step, widths, Record, accepted, refused}
+use Rattle.predicate_semantics.proofs.TraceLaws.{standing-completed, standing-trace-fits}
+use Rattle.lane_record.specs.Format.{Record, accepted, refused}
 use Rattle.lane_record.specs.Rules.{link, begins, linked, refusalValid, valid}
 use Rattle.lane_record.specs.Decode.{ruled}
-use Rattle.lane_record.specs.Answers.{noEvents, given}
+use Rattle.lane_record.specs.Answers.{given}
 use Rattle.lane_record.specs.Runs.{refusalIn, recordIn, outcomeIn, KeepsRules}
 use Rattle.lane_record.proofs.TestLaws.{yes}
 use Rattle.lane_record.proofs.Theorems.{given-trace}
@@ -54,13 +54,6 @@ linked-chain from to (s ∷ ss) h =
     yes (yes (either (s .«instruction_bytes») (h .1)) (eq-eqb _ _ (begins-at _ to ss (h .2))))
     (linked-chain (s .«next_program_counter») to ss (h .2))
 
--- its numbers fit their places
-fits-chain : (from to : ℕ) (ss : List PredicateControlStep) → Chain from ss to → Words ss → AllFit (widths step) (map stepValues ss)
-fits-chain from to [] h w = tt
-fits-chain from to (s ∷ ss) h w =
-    let b : s .«instruction_bytes» < 256 = ⊎-elim (λ e. omega arith) (λ e. omega arith) (h .1) in
-    ((w .0, (w .1, (b, (w .2, tt)))), fits-chain (s .«next_program_counter») to ss (h .2) (w .3))
-
 module _ (image : List ℕ) (symbols : Rv32SymbolLayout) (rows entries : ℕ) where
   abbrev p : Program
   p = standing image symbols
@@ -72,12 +65,7 @@ module _ (image : List ℕ) (symbols : Rv32SymbolLayout) (rows entries : ℕ) wh
   e = standingLaneRun image symbols rows entries
 
   done : Completed p l maxSteps (e .state)
-  unfolding standingLaneRun
-  done = completed p l maxSteps
-
-  fits : AllFit (widths step) (map stepValues (e .state .trace))
-  unfolding standing
-  fits = fits-chain _ _ (e .state .trace) (done .chain) (done .words standing-expands-to-words)
+  done = standing-completed image symbols rows entries
 
   abbrev s : LaneState
   s = e .state
@@ -115,7 +103,7 @@ module _ (image : List ℕ) (symbols : Rv32SymbolLayout) (rows entries : ℕ) wh
         ≡ some (recordIn image symbols rows entries s (passed r))
     unfolding execution events
     kept-accepted t =
-        given-trace (execution p l s r) (over (r .events) noEvents) (s .trace) t fits rules
+        given-trace (execution p l s r) (over (r .events) noEvents) (s .trace) t (standing-trace-fits image symbols rows entries) rules
         ∙ ap (λ (x : List CompiledMmioEvent). some (accepted (execution p l s r) x (s .trace))) same-events
         ∙ ap (λ (x : List PredicateControlStep). some (accepted (execution p l s r) (r .events) x)) (ended .trace)
 

@@ -6,27 +6,28 @@ use mathlib.Core.List.{List, [], _∷_, _++_, map}
 use Prim.Native.Nat.{ℕ, zero, suc, _*_, _≤_}
 use native.Mathlib.Omega.{arith}
 use lib.Dec.{leb}
-use lib.ListN.{length, take, drop, length-append, length-map}
+use lib.ListN.{length, take, drop, length-append}
 use lib.Seq.{take-append-seam}
 use borrow.Author.Tests.{leb-true, le-leb}
 use Rattle.little_endian.specs.Number.{AllBytes}
-use Rattle.little_endian.specs.Pack.{unpacks, AllFit}
+use Rattle.little_endian.specs.Pack.{AllFit}
 use Rattle.little_endian.specs.Lent.{over}
-use Rattle.little_endian.proofs.PackLaws.{Led, unpacks-packs, packs-unpacks}
+use Rattle.little_endian.proofs.PackLaws.{Led, packs-unpacks}
 use Rattle.predicate_semantics.specs.declared.PredicateControlStep.{PredicateControlStep}
 use Rattle.predicate_semantics.specs.declared.CompiledMmioEvent.{CompiledMmioEvent}
 use Rattle.predicate_semantics.specs.declared.PredicateTransducerExecution.{PredicateTransducerExecution}
-use Rattle.predicate_semantics.specs.Trace.{stepWidths, stepValues, stepOf, traceBytes, stepsAt}
+use Rattle.predicate_semantics.specs.Blank.{noEvents}
+use Rattle.predicate_semantics.specs.Trace.{stepWidths, stepValues, traceBytes, stepsAt}
+use Rattle.predicate_semantics.proofs.TraceLaws.{length-trace, trace-back}
 use Rattle.lane_record.specs.declared.RecordAnswer.{RecordAnswer}
 use Rattle.lane_record.specs.declared.RecordAnswer.the-variants as answer
 use Rattle.lane_record.specs.declared.RecordOutcome.{RecordOutcome}
 use Rattle.lane_record.specs.Format.{step, widths, Record, accepted, refused, encode, FitsRecord}
 use Rattle.lane_record.specs.Rules.{link, begins, linked, valid}
 use Rattle.lane_record.specs.Decode.{ruled, decode}
-use Rattle.lane_record.specs.Answers.{Said, done, wrote, refuses, noEvents, noOutcome, acceptedOutcome, readAnswer, readOutcome, readTrace, acceptedGiven, givenAccepted, givenBy, given, writeAnswer, writeOutput}
+use Rattle.lane_record.specs.Answers.{Said, done, wrote, refuses, noOutcome, acceptedOutcome, readAnswer, readOutcome, readTrace, acceptedGiven, givenAccepted, givenBy, given, writeAnswer, writeOutput}
 use Rattle.lane_record.proofs.TestLaws.{both, yes}
-use Rattle.lane_record.proofs.DecodeLaws.{ruled-some, steps-values, values-steps, rules, decode-encode, Same, decode-same}
-use Rattle.lane_record.proofs.AnswerLaws.{length-trace}
+use Rattle.lane_record.proofs.DecodeLaws.{ruled-some, values-steps, rules, decode-encode, Same, decode-same}
 
 -- ---- entries of a trace
 led-nil : (z n : ℕ) (bs : List ℕ) → Led [] z n bs
@@ -37,11 +38,6 @@ led-nil z (suc n) bs = (refl, led-nil z n (drop z bs))
 entries-same : (n : ℕ) (t : List ℕ) → AllBytes t → n * 13 ≤ length t → traceBytes (stepsAt 0 n t) ≡ take (n * 13) t
 entries-same n t b l = rw (values-steps 0 n t) (packs-unpacks [] stepWidths n t b l (led-nil 13 n t))
 
--- entries written and read again
-steps-same : (ss : List PredicateControlStep) (rest : List ℕ) → AllFit (widths step) (map stepValues ss) → stepsAt 0 (length ss) (traceBytes ss ++ rest) ≡ ss
-steps-same ss rest f =
-    rw (← length-map ss stepValues) (ap (map stepOf) (unpacks-packs [] stepWidths (map stepValues ss) rest f) ∙ steps-values ss)
-
 -- an accepted result whose steps stand in the trace is their record, if that keeps the rules
 pub given-trace : (e : PredicateTransducerExecution) (es : List CompiledMmioEvent) (ss : List PredicateControlStep) (t : List ℕ)
     → AllFit (widths step) (map stepValues ss) → valid (accepted e (take (e .«event_count») es) ss) ≡ true
@@ -50,7 +46,7 @@ given-trace e es ss t f v =
     let T : List ℕ = over (traceBytes ss) t in
     let n = rules e (take (e .«event_count») es) ss v .2 in
     let same : acceptedGiven e es T ≡ accepted e (take (e .«event_count») es) ss =
-    ap (λ (x : List PredicateControlStep). accepted e (take (e .«event_count») es) x) (rw (← n) (steps-same ss (drop (length (traceBytes ss)) t) f)) in
+    ap (λ (x : List PredicateControlStep). accepted e (take (e .«event_count») es) x) (rw (← n) (trace-back ss t f)) in
     let l : e .«symbolic_transitions» * 13 ≤ length T = omega (arith, length-append (traceBytes ss) (drop (length (traceBytes ss)) t), length-trace ss, n) in
     ap (λ (x : Record). ruled (leb (e .«symbolic_transitions» * 13) (length T) && valid x) x) same
     ∙ ap (λ (w : Bool). ruled w (accepted e (take (e .«event_count») es) ss)) (yes (le-leb _ _ l) v)

@@ -9,6 +9,7 @@ use lib.ListN.{length, take, replicate}
 use Rattle.little_endian.specs.Lent.{over}
 use Rattle.predicate_semantics.specs.declared.CompiledMmioEvent.{CompiledMmioEvent}
 use Rattle.predicate_semantics.specs.declared.PredicateTransducerExecution.{PredicateTransducerExecution}
+use Rattle.predicate_semantics.specs.Blank.{noExecution, noEvents}
 use Rattle.predicate_semantics.specs.Trace.{traceBytes, stepsAt}
 use Rattle.lane_record.specs.declared.RecordRefusal.{RecordRefusal}
 use Rattle.lane_record.specs.declared.RecordAnswer.{RecordAnswer}
@@ -42,24 +43,6 @@ writeSaid write.RulesBroken = refuses 15
 writeSaid write.OutputTooShort = refuses 16
 
 -- ---- results
-
-abbrev pub noExecution : PredicateTransducerExecution
-noExecution =
-    record {
-      «first_input» = 0;
-      «lane_count» = 0;
-      «return_value» = 0;
-      «symbolic_transitions» = 0;
-      «lane_value_operations» = 0;
-      «sparse_memory_bytes» = 0;
-      «event_count» = 0;
-    }
-
-abbrev pub noEvent : CompiledMmioEvent
-noEvent = record { operation = 0; offset = 0; value = 0; location = 0 }
-
-abbrev pub noEvents : List CompiledMmioEvent
-noEvents = replicate 32 noEvent
 
 abbrev pub refusedOutcome : RecordRefusal → RecordOutcome
 refusedOutcome f = record { answer = answer.Refused f; execution = noExecution; events = noEvents }

@@ -99,13 +99,3 @@ pub fn put_event(s: &mut [u8], at: usize, e: CompiledMmioEvent)
     put_u32(s, at + 9, e.value);
     put_u32(s, at + 13, e.location);
 }
-
-pub fn put_entry(s: &mut [u8], at: usize, step: PredicateControlStep)
-    requires { ⌜ at + 13 ≤ length (now s) ⌝ }
-    ensures { λ r. ⌜ now (s .exit) ≡ sets (now (s .entry)) at (pack stepWidths (stepValues step)) ⌝ }
-{
-    put_u32(s, at, step.program_counter);
-    put_u32(s, at + 4, step.instruction_word);
-    put_u8(s, at + 8, step.instruction_bytes);
-    put_u32(s, at + 9, step.next_program_counter);
-}

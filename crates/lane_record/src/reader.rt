@@ -6,7 +6,6 @@ use super::RecordReading;
 use super::RecordRefusal;
 use super::items::event_at;
 use super::items::execution_at;
-use super::items::put_entry;
 use super::items::refusal_at;
 use super::items::step_at;
 use super::rules::and;
@@ -15,16 +14,18 @@ use super::rules::refusal_valid;
 use super::rules::steps_linked;
 use predicate_semantics::CompiledMmioEvent;
 use predicate_semantics::PredicateTransducerExecution;
+use predicate_semantics::put_entry;
 ghost use mathlib.Core.Path.{_≡_};
 ghost use mathlib.Core.Bool.{_&&_};
 ghost use mathlib.Core.List.{List};
 ghost use Prim.Native.Nat.{ℕ, _+_, _*_, _≤_, _<_};
 ghost use lib.ListN.{length, drop};
 ghost use lib.Seq.{sets};
+ghost use Rattle.predicate_semantics.specs.Blank.{noEvents};
 ghost use Rattle.predicate_semantics.specs.Trace.{traceBytes, stepsAt};
 ghost use Rattle.lane_record.specs.Rules.{valid};
 ghost use Rattle.lane_record.specs.Decode.{executionAt, eventsAt, acceptedAt, acceptedForm, acceptedIn, refusedIn, marks};
-ghost use Rattle.lane_record.specs.Answers.{noEvents, refusedReading, noReading, Reads};
+ghost use Rattle.lane_record.specs.Answers.{refusedReading, noReading, Reads};
 
 // n bytes, each z from the one before, are all kind.
 fn kinds_are(s: &[u8], from: usize, kind: u8, z: usize, n: usize) -> bool

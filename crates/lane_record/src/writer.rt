@@ -1,7 +1,6 @@
 // Writing: the rules and then the output's length are tested before anything is written.
 use super::RecordRefusal;
 use super::WriteAnswer;
-use super::items::put_entry;
 use super::items::put_event;
 use super::items::put_execution;
 use super::items::put_refusal;
@@ -12,6 +11,7 @@ use super::rules::refusal_valid;
 use super::rules::steps_linked;
 use predicate_semantics::CompiledMmioEvent;
 use predicate_semantics::PredicateTransducerExecution;
+use predicate_semantics::put_entry;
 ghost use mathlib.Core.Path.{_≡_};
 ghost use mathlib.Core.Bool.{_&&_};
 ghost use mathlib.Core.List.{map};

@@ -10,3 +10,6 @@ pub mod Always
 pub mod Written
 pub mod RecordRules
 pub mod ExpandedWords
+pub mod Reached
+mod Entry
+pub mod TraceLaws

@@ -23,7 +23,7 @@ use Rattle.predicate_semantics.specs.declared.Rv32SymbolLayout.{Rv32Symb
 use Rattle.predicate_semantics.specs.Choice.{choose}
 use Rattle.predicate_semantics.specs.Meaning.{Meaning, nothing, literal, compute, jump, jumpTo, branch, load, store, meaning}
 use Rattle.predicate_semantics.specs.Program.{Program, memoryEnd, stop, stopWord, imageEnd, sized, inMemory, placed}
-use Rattle.predicate_semantics.specs.State.{Result, Effect, goes, sets, stores, Looked, fill, atStart, advance, apply}
+use Rattle.predicate_semantics.specs.State.{Result, Effect, goes, sets, stores, Looked, fill, atStart, recorded, advance, apply}
 use Rattle.predicate_semantics.specs.Memory.{Written, LaneBytes, put, read, write}
 use Rattle.predicate_semantics.specs.Refusal.{Refusal, Tested, passed, refused, refuse, _>>=_}
 use Rattle.predicate_semantics.specs.Lane.{LaneState, Setup, Ended, uniform, on, inside, lanes, memoryOf, agreed, reg, access, accessAgreed, fetchWord, fetch, execute, look, step, events, finish, run, begin, start, laneRun}
@@ -131,9 +131,18 @@ meaning-leads (Remu v) pc = tt
 meaning-leads Fence pc = tt
 meaning-leads FenceI pc = tt
 
+-- a step adds at most one location
+recorded-few : (c pc a n : ℕ) (ls : List ℕ) → length (recorded c pc a n ls) ≤ suc (length ls)
+unfolding recorded choose
+recorded-few c pc a n ls = go (eqb n 4 && eqb a c)
+  where
+    go : (b : Bool) → length (choose b (λ _. ls ++ pc ∷ []) (λ _. ls)) ≤ suc (length ls)
+    go true = simp length-append (omega arith)
+    go false = omega arith
+
 module _ (p : Program) (l : Setup) where
   -- no refusal 1
-  abbrev Sized : Type 0
+  abbrev pub Sized : Type 0
   Sized = (0 < length (p .image)) × (length (p .image) ≤ maxImageBytes)
 
   fit : T (sized (p .image)) → Sized
@@ -152,24 +161,26 @@ module _ (p : Program) (l : Setup) where
       omega (arith, ltb→lt e memoryEnd (both-right (leb imageBase e) (ltb e memoryEnd) (both-left in-memory _ (both-left (in-memory && _) _ t))))
 
   -- written bytes past the image, in memory, stop's among them, and no more than there are rows
-  record Stored (ws : List Written) : Type 0 where
-    least : 4 ≤ length ws
-    most : length ws ≤ l .rows
-    distinct : Distinct (imageEnd p) memoryEnd ws
+  pub record Stored (ws : List Written) : Type 0 where
+    pub least : 4 ≤ length ws
+    pub most : length ws ≤ l .rows
+    pub distinct : Distinct (imageEnd p) memoryEnd ws
 
   -- the trace of every run
-  record Traced (s : LaneState) : Type 0 where
-    counted : length (s .trace) ≡ s .steps
-    entered : s .steps ≤ l .entries
-    chained : Chain (p .symbols .entry) (s .trace) (s .pc)
-    words : ExpandsToWords (p .core) → Words (s .trace)
+  pub record Traced (s : LaneState) : Type 0 where
+    pub counted : length (s .trace) ≡ s .steps
+    pub entered : s .steps ≤ l .entries
+    pub chained : Chain (p .symbols .entry) (s .trace) (s .pc)
+    pub words : ExpandsToWords (p .core) → Words (s .trace)
 
   -- what every step keeps, once a run has started
-  record Kept (s : LaneState) : Type 0 where
-    fits : Sized
-    small : s .pc < 2 ^ 32
-    traced : Traced s
-    stored : Stored (s .memory)
+  pub record Kept (s : LaneState) : Type 0 where
+    pub fits : Sized
+    pub small : s .pc < 2 ^ 32
+    pub traced : Traced s
+    pub stored : Stored (s .memory)
+    -- at most one location for a step
+    pub located : length (s .locations) ≤ s .steps
 
   -- a fetched instruction
   record Short (f : Fetched) : Type 0 where
@@ -177,20 +188,21 @@ module _ (p : Program) (l : Setup) where
     word-fits : ExpandsToWords (p .core) → f .word < 2 ^ 32
 
   -- where a step leads, and what it stores
-  abbrev Clear : LaneState → Effect LaneWord → Type 0
+  abbrev pub Clear : LaneState → Effect LaneWord → Type 0
   Clear s (goes next) = next < 2 ^ 32
   Clear s (sets rd value next) = next < 2 ^ 32
   Clear s (stores a n value next) =
       (next < 2 ^ 32) × (imageEnd p ≤ a) × (a + n ≤ memoryEnd) × (length (write (s .memory) n a value) ≤ l .rows)
 
-  room : {ws : List Written} → Sized → Distinct (imageEnd p) memoryEnd ws → length ws < maxMemoryBytes
+  pub room : {ws : List Written} → Sized → Distinct (imageEnd p) memoryEnd ws → length ws < maxMemoryBytes
   room {ws} h d =
       omega (arith, distinct-fits (imageEnd p) (maxMemoryBytes - length (p .image)) ws (subst (λ (x : ℕ). Distinct (imageEnd p) x ws) (omega arith) d))
 
   kept-advance : {s : LaneState} (f : Fetched) (next : ℕ) (registers : List LaneWord) (ws : List Written) (locations : List ℕ)
-      → Kept s → Short f → s .steps < l .entries → next < 2 ^ 32 → Stored ws → Kept (advance s f next registers ws locations)
+      → Kept s → Short f → s .steps < l .entries → next < 2 ^ 32 → Stored ws → length locations ≤ suc (length (s .locations))
+      → Kept (advance s f next registers ws locations)
   unfolding advance
-  kept-advance {s} f next registers ws locations k b e n stored = record {
+  kept-advance {s} f next registers ws locations k b e n stored few = record {
     fits = k .fits;
     small = n;
     traced = record {
@@ -200,18 +212,19 @@ module _ (p : Program) (l : Setup) where
       words = λ x. words-add (s .trace) _ (k .traced .words x) (k .small) (b .word-fits x) n;
     };
     stored = stored;
+    located = omega (arith, few, k .located);
   }
 
   kept-apply : {s : LaneState} (f : Fetched) (e : Effect LaneWord) → Kept s → Short f → Clear s e → s .steps < l .entries
       → Kept (apply write (p .symbols .«event_count») s f e)
   unfolding apply
-  kept-apply f (goes next) k b c t = kept-advance f next _ _ _ k b t c (k .stored)
-  kept-apply f (sets rd value next) k b c t = kept-advance f next _ _ _ k b t c (k .stored)
+  kept-apply f (goes next) k b c t = kept-advance f next _ _ _ k b t c (k .stored) (omega arith)
+  kept-apply f (sets rd value next) k b c t = kept-advance f next _ _ _ k b t c (k .stored) (omega arith)
   kept-apply {s} f (stores a n value next) k b c t = kept-advance f next _ _ _ k b t (c .0) (record {
     least = le-trans (k .stored .least) (write-grows n (s .memory) a value);
     most = c .3;
     distinct = distinct-write n a value (c .1) (c .2) (k .stored .distinct);
-  })
+  }) (recorded-few (p .symbols .«event_count») (s .pc) a n (s .locations))
 
   -- the value that lanes agree on is lane 0's
   always-agreed : (role : ℕ) (w : LaneWord) → T (leb 1 role && leb role 10) → Always (λ v. v ≡ getD (w .values) 0 0) (agreed (l .inputs) role w)
@@ -303,6 +316,7 @@ module _ (p : Program) (l : Setup) where
     same-steps : s .steps ≡ r .steps
     same-trace : s .trace ≡ r .trace
     few : length (r .events) ≤ 32
+    as-located : length (r .events) ≡ length (s .locations)
 
   always-finish : (s : LaneState) → Always (Answered s) (finish p l s)
   unfolding finish proper
@@ -314,11 +328,16 @@ module _ (p : Program) (l : Setup) where
         same-steps = refl;
         same-trace = refl;
         few = bounded count (length (s .locations)) (length es) t e;
+        as-located = omega (arith, e);
       })))))
     where
       bounded : (count n m : ℕ) → T (leb count 32 && eqb count n) → m ≡ 0 + n → m ≤ 32
       bounded count n m t e =
           omega (arith, leb→le count 32 (both-left (leb count 32) (eqb count n) t), eqb→eq count n (both-right (leb count 32) (eqb count n) t))
+
+  -- an event for each location, and at most 32
+  pub events-located : (s : LaneState) (r : Result) → finish p l s ≡ passed r → (length (r .events) ≡ length (s .locations)) × (length (r .events) ≤ 32)
+  events-located s r q = let a : Answered s r = passes (rw q at (always-finish s)) in (a .as-located, a .few)
 
   -- what holds where a run ends: of its trace, its steps, and an answer at stop
   abbrev Ends : ℕ → Ended → Type 0
@@ -366,7 +385,16 @@ module _ (p : Program) (l : Setup) where
       most = omega (arith, four (constant (lanes p l) stopWord));
       distinct = distinct-write 4 stop _ (omega arith) (omega arith) (distinct-none _ _);
     };
+    located = omega arith;
   }
+
+  -- where a completed operation leads, and what it stores
+  pub effect-clear : (s : LaneState) (next pc : ℕ) (o : Operation) (e : Effect LaneWord) → next < 2 ^ 32
+      → execute p l s next (meaning o pc) ≡ passed e → Clear s e
+  effect-clear s next pc o e h q = passes (rw q at (always-execute s next (meaning o pc) h (meaning-leads o pc)))
+
+  pub kept-step : (s t : LaneState) → Kept s → step p l s ≡ passed t → Kept t
+  kept-step s t k q = passes (rw q at (always-step s k)) .0
 
   always-start : Always (λ s. Kept s × (s ≡ begin p l)) (start p l)
   unfolding start proper
@@ -374,6 +402,9 @@ module _ (p : Program) (l : Setup) where
       bind (always-require 1 _ tt) (λ u sized.
       bind (always-require 2 _ tt) (λ v placed.
       bind (always-require 13 _ tt) (λ w rows. gives (begin-kept (fit sized) (entry-fits placed) (leb→le _ _ rows), refl))))
+
+  pub kept-start : (s : LaneState) → start p l ≡ passed s → Kept s × (s ≡ begin p l)
+  kept-start s q = passes (rw q at always-start)
 
   ends-laneRun : (limit : ℕ) → Ends limit (laneRun p l limit)
   unfolding laneRun begin

@@ -12,3 +12,4 @@ pub mod Standing
 pub mod Guarantee
 pub mod Cases
 pub mod RecordRules
+pub mod Blank

@@ -1,4 +1,8 @@
-// The types that both runs, the record and their definitions share. The definitions stand in specs/.
+// The types that both runs, the record and their definitions share, and the entry of a trace. The definitions stand in specs/.
+ghost use mathlib.Core.Path.{_≡_};
+ghost use Rattle.predicate_semantics.specs.Trace.{putEntry};
+use little_endian::put_u8;
+use little_endian::put_u32;
 
 // The three symbols of an image: where it starts, and where it leaves its events.
 pub struct Rv32SymbolLayout {
@@ -32,4 +36,20 @@ pub struct PredicateTransducerExecution {
     pub lane_value_operations: u32,
     pub sparse_memory_bytes: u32,
     pub event_count: u8,
+}
+
+// A step as the body of a record's item 03, which is an entry of a trace; where it does not lie inside, nothing is written.
+pub fn put_entry(s: &mut [u8], at: usize, step: PredicateControlStep)
+    ensures { λ r. ⌜ now (s .exit) ≡ putEntry (now (s .entry)) at step ⌝ }
+{
+    if s.len() < 13 {
+        return;
+    }
+    if s.len() - 13 < at {
+        return;
+    }
+    put_u32(s, at, step.program_counter);
+    put_u32(s, at + 4, step.instruction_word);
+    put_u8(s, at + 8, step.instruction_bytes);
+    put_u32(s, at + 9, step.next_program_counter);
 }

@@ -8,6 +8,7 @@ use lib.Seq.{sets}
 use borrow.Author.Needs.{needs}
 use Rattle.predicate_semantics.specs.Trace.{stepValues, stepsAt}
 use Rattle.lane_record.specs.Format.{step, items}
+use Rattle.predicate_semantics.proofs.TraceLaws.{entry-inside}
 use Rattle.lane_record.proofs.LoopLaws.{Moving, moving-step, moving-exit}
 use Rattle.lane_record.proofs.writer.put_steps.Statement.{statement}
 use Rattle.lane_record.proofs.writer.put_steps.Tie as tie
@@ -29,9 +30,7 @@ put-steps-spec =
     (λ c κs. omega (arith, c .before .loop .inv .has))
     (λ c κs. search needs)
     (λ c. let i = c .before .before .before .before .before .before .before .loop .inv in omega (arith, i .fits))
-    (λ c κs.
-    let p = c .before .before .before in let i = p .before .before .before .before .loop .inv in
-    omega (arith, i .fits, i .long, p .put-u8 .kept .0))
+    (λ c κs. search needs)
     (λ c. search needs)
     (λ c. let i = c .before .before .before .before .before .before .before .before .before .before .loop .inv in omega (arith, i .fits))
     (λ c. let i = c .before .before .before .before .before .before .before .before .before .before .loop .inv in omega (arith, i .has))
@@ -39,6 +38,6 @@ put-steps-spec =
     (λ c.
     let p = c .before .before in let k = p .before .before .before .before in let s = k .before .before in let h = s .before .before in
     moving-step (h .loop .inv) (s .step-at .result) (rw (add-zero (h .loop .from)) (s .step-at .ensures)) (s .before .loop-test .taken)
-    (p .put-entry .ensures ∙ rw (k .put-u8 .ensures, add-one (h .loop .at))) (p .put-entry .kept .0 ∙ k .put-u8 .kept .0))
+    (p .put-entry .ensures ∙ entry-inside _ _ _ (let i = h .loop .inv in omega (arith, i .fits, i .long, k .put-u8 .kept .0)) ∙ rw (k .put-u8 .ensures, add-one (h .loop .at))) (p .put-entry .kept .0 ∙ k .put-u8 .kept .0))
     (λ c. c .before .loop .inv .long)
     (λ c. moving-exit (c .before .loop .inv) (c .loop-test .left)))

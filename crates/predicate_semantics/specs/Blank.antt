@@ -1,0 +1,24 @@
+-- What stands where a result has nothing: zeros.
+use mathlib.Core.List.{List}
+use lib.ListN.{replicate}
+use Rattle.predicate_semantics.specs.declared.CompiledMmioEvent.{CompiledMmioEvent}
+use Rattle.predicate_semantics.specs.declared.PredicateTransducerExecution.{PredicateTransducerExecution}
+
+abbrev pub noExecution : PredicateTransducerExecution
+noExecution =
+    record {
+      «first_input» = 0;
+      «lane_count» = 0;
+      «return_value» = 0;
+      «symbolic_transitions» = 0;
+      «lane_value_operations» = 0;
+      «sparse_memory_bytes» = 0;
+      «event_count» = 0;
+    }
+
+abbrev pub noEvent : CompiledMmioEvent
+noEvent = record { operation = 0; offset = 0; value = 0; location = 0 }
+
+-- as many as are kept: 32
+abbrev pub noEvents : List CompiledMmioEvent
+noEvents = replicate 32 noEvent
