@@ -1,0 +1,206 @@
+-- What the tests of a load and the parts of a fetch come to. Assumes nothing.
+use mathlib.Core.Path.{_≡_, refl, sym, ap, _∙_}
+use mathlib.Core.Bool.{Bool, true, false, cond}
+use mathlib.Core.List.{List, [], _∷_}
+use Prim.Native.Nat.{ℕ, zero, suc, _+_, _-_, _*_, _%_, _^_, _≤_, _<_}
+use native.Mathlib.Nat.{mod-eq-of-lt, pow-suc}
+use native.Mathlib.Omega.{arith}
+use borrow.Author.Tests.{eq-eqb, ne-eqb, lt-ltb, leb-true}
+use lib.Dec.{ltb, leb}
+use lib.ListN.{length, getD, take, drop, replicate, length-drop}
+use lib.Seq.{drop-cons, length-take-le}
+use Rattle.little_endian.specs.Number.{value, AllBytes}
+use Rattle.little_endian.proofs.NumberLaws.{value-below, below-drop, below-take}
+use Rattle.riscv32imc.specs.Bits.{join}
+use Rattle.riscv32imc.specs.Constants.{imageBase}
+use Rattle.lane_word.specs.declared.LaneWord.{LaneWord}
+use Rattle.lane_word.specs.declared.Uniform.{Uniform}
+use Rattle.lane_word.specs.declared.Uniform.the-variants.{Value, Unknown, Uneven}
+use Rattle.lane_word.specs.Word.{constant, binary, zip, every, inputs, uniformOf}
+use Rattle.lane_word.proofs.Tab.{length-inputs}
+use Rattle.predicate_semantics.specs.Choice.{choose}
+use Rattle.predicate_semantics.specs.Program.{memoryEnd, initial}
+use Rattle.predicate_semantics.specs.Memory.{LaneBytes, read}
+use Rattle.predicate_semantics.specs.Refusal.{Refusal, Tested, passed, refused, refuse, require, found, _>>=_}
+use Rattle.predicate_semantics.specs.Lane.{uniform, inside, agreed, access, accessAgreed, fetchWord, fetch}
+use Rattle.predicate_semantics.specs.Standing.{standingCore}
+use Rattle.lane_memory.specs.Rows.{loadByte}
+use Rattle.lane_memory.proofs.Laws.{load-below}
+use Rattle.lane_access.specs.Seen.{offsetOf, seen, Lies}
+use Rattle.lane_access.specs.Answers.{decodedAs, expandedAs, fourAs}
+
+-- what the code's answer to a uniform test is in the semantics
+abbrev pub uniformAs : ℕ → Uniform → Tested ℕ
+uniformAs role (Value v) = passed v
+uniformAs role Unknown = refuse 6 role
+uniformAs role Uneven = refuse 7 role
+
+tested : (role v : ℕ) (b c : Bool)
+    → choose b (λ _. choose c (λ _. passed v) (λ _. refuse 7 role)) (λ _. refuse 6 role)
+    ≡ uniformAs role (cond b (cond c (Value v) Uneven) Unknown)
+unfolding choose
+tested role v true true = refl
+tested role v true false = refl
+tested role v false c = refl
+
+pub agreed-is : (role : ℕ) (w : LaneWord) → agreed (inputs 6 250) role w ≡ uniformAs role (uniformOf w)
+unfolding agreed uniform uniformOf
+agreed-is role w = tested role (getD (w .values) 0 0) (w .known) (every (getD (w .values) 0 0) (w .values))
+
+-- a constant passes every uniform test
+every-same : (n v : ℕ) → every v (replicate n v) ≡ true
+unfolding every
+every-same zero v = refl
+every-same (suc n) v = rw (eq-eqb v v refl) (every-same n v)
+
+pub agreed-constant : (role v : ℕ) → agreed (inputs 6 250) role (constant 250 v) ≡ passed v
+unfolding agreed uniform choose constant
+agreed-constant role v = rw (every-same 250 v)
+
+-- constants joined are a constant
+zip-same : (f : ℕ → ℕ → ℕ) (n x y : ℕ) → zip f (replicate n x) (replicate n y) ≡ replicate n (f x y)
+unfolding zip
+zip-same f zero x y = refl
+zip-same f (suc n) x y = ap (λ (l : List ℕ). f x y ∷ l) (zip-same f n x y)
+
+binary-constant : (f : ℕ → ℕ → ℕ) (n x y : ℕ) → binary f (constant n x) (constant n y) ≡ constant n (f x y)
+unfolding binary constant
+binary-constant f n x y = rw (zip-same f n x y)
+
+-- a byte of the image
+pub seen-image : (image rows : List ℕ) (a : ℕ) → offsetOf a < length image → seen image rows a ≡ constant 250 (getD image (offsetOf a) 0)
+unfolding seen initial
+seen-image image rows a h = rw (lt-ltb _ _ h)
+
+-- joining stays within a word where the number has at most four bytes
+small : (n : ℕ) → n ≤ 3 → 256 ^ n ≤ 16777216
+small zero h = omega arith
+small (suc zero) h = omega arith
+small (suc (suc zero)) h = omega arith
+small (suc (suc (suc zero))) h = omega arith
+small (suc (suc (suc (suc n)))) h = absurd (omega arith)
+
+join-small : (x y n : ℕ) → x < 256 → y < 256 ^ n → n ≤ 3 → join x y ≡ x + 256 * y
+join-small x y n hx hy hn =
+    let b : 256 ^ n ≤ 16777216 = small n hn in
+    mod-eq-of-lt (omega arith)
+
+-- a number that lies whole in the image is read as a constant
+pub read-image : (image rows : List ℕ) → AllBytes image → (n a : ℕ) → n ≤ 4 → imageBase ≤ a → offsetOf a + n ≤ length image
+    → read 250 (seen image rows) n a ≡ constant 250 (value (take n (drop (offsetOf a) image)))
+unfolding read
+read-image image rows h zero a k l f = refl
+read-image image rows h (suc n) a k l f =
+    let o : ℕ = offsetOf a in
+    let e : offsetOf (suc a) ≡ suc o = omega arith in
+    let rest : List ℕ = take n (drop (suc o) image) in
+    let size : length rest ≡ n = length-take-le n (drop (suc o) image) (simp length-drop (omega arith)) in
+    let b : value rest < 256 ^ length rest = value-below rest (below-take n (drop (suc o) image) (below-drop (suc o) image h)) in
+    let b' : value rest < 256 ^ n = rw size at b in
+    let j : join (getD image o 0) (value rest) ≡ getD image o 0 + 256 * value rest = join-small _ _ n (h o) b' (omega arith) in
+    let ih : read 250 (seen image rows) n (suc a) ≡ constant 250 (value rest)
+    = rw e at (read-image image rows h n (suc a) (omega arith) (omega arith) (omega arith)) in
+    rw (seen-image image rows a (omega arith), ih, binary-constant join 250 _ _, j, drop-cons image o 0 (omega arith))
+
+-- a number lies there where as many bytes are left from its offset on
+pub lies-left : (image : List ℕ) (a o v n : ℕ) → n ≤ 4 → o ≡ offsetOf a → o < length image → leb n (length image - o) ≡ true → v ≡ value (take n (drop o image)) → Lies v image a n
+lies-left image a o v n k e h b is = record { small = k; inside = omega (arith, e, h, leb-true n (length image - o) b); is = rw (← e) is }
+
+pub lies-read : (image rows : List ℕ) → AllBytes image → (v n a : ℕ) → imageBase ≤ a → Lies v image a n → read 250 (seen image rows) n a ≡ constant 250 v
+lies-read image rows h v n a l f = rw (f .is) (read-image image rows h n a (f .small) l (f .inside))
+
+-- ---- a load after its range, and what its lanes agree on
+
+clash : _≡_ {A = ℕ} 0 1 → ⊥
+clash z = omega arith
+
+pub inside-fits : (a n : ℕ) → inside a n ≡ passed tt → (imageBase ≤ a) × (a + n ≤ memoryEnd)
+unfolding inside require refuse _>>=_
+inside-fits a n h = go (leb imageBase a) (leb (a + n) memoryEnd) refl refl h
+  where
+    go : (b c : Bool) → leb imageBase a ≡ b → leb (a + n) memoryEnd ≡ c → (require 4 b >>= λ _. require 5 c) ≡ passed tt → (imageBase ≤ a) × (a + n ≤ memoryEnd)
+    go true true p q h = (leb-true _ _ p, leb-true _ _ q)
+    go true false p q h = absurd (clash (cc))
+    go false c p q h = absurd (clash (cc))
+
+module _ (memory : LaneBytes) (n a : ℕ) where
+  pub access-inside : inside a n ≡ passed tt → access (inputs 6 250) memory n a ≡ passed (read 250 memory n a)
+  unfolding access _>>=_
+  access-inside h = rw (h, length-inputs 6 250)
+
+  pub access-outside : (r : Refusal) → inside a n ≡ refused r → access (inputs 6 250) memory n a ≡ refused r
+  unfolding access _>>=_
+  access-outside r h = rw h
+
+  module _ (role : ℕ) where
+    pub agreed-inside : inside a n ≡ passed tt → accessAgreed (inputs 6 250) role memory n a ≡ agreed (inputs 6 250) role (read 250 memory n a)
+    unfolding accessAgreed _>>=_
+    agreed-inside h = rw (access-inside h)
+
+    pub agreed-outside : (r : Refusal) → inside a n ≡ refused r → accessAgreed (inputs 6 250) role memory n a ≡ refused r
+    unfolding accessAgreed _>>=_
+    agreed-outside r h = rw (access-outside r h)
+
+-- ---- two bytes are below 65536
+
+-- the first lane of joined words, which is what the lanes agree on
+first-join : (xs ys : List ℕ) (n : ℕ) → getD xs 0 0 < 256 → getD ys 0 0 < 256 ^ n → n ≤ 3 → getD (zip join xs ys) 0 0 < 256 ^ suc n
+unfolding zip
+first-join [] ys n hx hy hn = omega (arith, pow-suc 256 n)
+first-join (x ∷ xs) [] n hx hy hn = omega (arith, pow-suc 256 n)
+first-join (x ∷ xs) (y ∷ ys) n hx hy hn = rw (join-small x y n hx hy hn) (omega (arith, pow-suc 256 n))
+
+first-read : (memory : LaneBytes) → ((a : ℕ) → getD (memory a .values) 0 0 < 256) → (n a : ℕ) → n ≤ 4 → getD (read 250 memory n a .values) 0 0 < 256 ^ n
+unfolding read binary constant
+first-read memory h zero a k = omega arith
+first-read memory h (suc n) a k =
+    first-join (memory a .values) (read 250 memory n (suc a) .values) n (h a) (first-read memory h n (suc a) (omega arith)) (omega arith)
+
+first-seen : (image rows : List ℕ) → AllBytes image → AllBytes rows → (a : ℕ) → getD (seen image rows a .values) 0 0 < 256
+unfolding seen initial constant
+first-seen image rows h k a = go (ltb (offsetOf a) (length image))
+  where
+    go : (b : Bool) → getD (cond b (constant 250 (initial image a)) (loadByte rows a 0) .values) 0 0 < 256
+    go true = h (offsetOf a)
+    go false = load-below rows a 0 k (omega arith) 0
+
+agreed-first : (role v : ℕ) (w : LaneWord) → agreed (inputs 6 250) role w ≡ passed v → getD (w .values) 0 0 ≡ v
+unfolding agreed uniform choose refuse
+agreed-first role v w h = go (w .known) (every (getD (w .values) 0 0) (w .values)) h
+  where
+    go : (b c : Bool) → choose b (λ _. choose c (λ _. passed (getD (w .values) 0 0)) (λ _. refuse 7 role)) (λ _. refuse 6 role) ≡ passed v → getD (w .values) 0 0 ≡ v
+    go true true h = cc
+    go true false h = absurd (clash (cc))
+    go false c h = absurd (clash (cc))
+
+pub half-below : (image rows : List ℕ) → AllBytes image → AllBytes rows → (role a v : ℕ) → accessAgreed (inputs 6 250) role (seen image rows) 2 a ≡ passed v → v < 65536
+half-below image rows h k role a v e = go (inside a 2) refl
+  where
+    go : (t : Tested (Unit {0})) → inside a 2 ≡ t → v < 65536
+    go (passed tt) p =
+        let f : getD (read 250 (seen image rows) 2 a .values) 0 0 ≡ v
+        = agreed-first role v (read 250 (seen image rows) 2 a) (sym (agreed-inside (seen image rows) 2 a role p) ∙ e) in
+        rw f at (first-read (seen image rows) (first-seen image rows h k) 2 a (omega arith))
+    go (refused r) p = let q : refused r ≡ passed v = sym (agreed-outside (seen image rows) 2 a role r p) ∙ e in absurd (clash (cc))
+
+-- ---- the parts of a fetch
+
+bind-bind : {A B C : Type 0} (t : Tested A) (f : A → Tested B) (g : B → Tested C) → (t >>= f >>= g) ≡ (t >>= λ x. f x >>= g)
+unfolding _>>=_
+bind-bind (passed a) f g = refl
+bind-bind (refused r) f g = refl
+
+module _ (memory : LaneBytes) (pc steps : ℕ) where
+  pub fetch-refused : (r : Refusal) → accessAgreed (inputs 6 250) 1 memory 2 pc ≡ refused r → fetch (inputs 6 250) standingCore memory steps pc ≡ refused r
+  unfolding fetch fetchWord _>>=_
+  fetch-refused r h = rw h
+
+  pub fetch-whole : (half : ℕ) → accessAgreed (inputs 6 250) 1 memory 2 pc ≡ passed half → half % 4 ≡ 3
+      → fetch (inputs 6 250) standingCore memory steps pc ≡ fourAs memory pc
+  unfolding fetch fetchWord fourAs decodedAs standingCore choose _>>=_
+  fetch-whole half h e = rw (h, eq-eqb (half % 4) 3 e) (bind-bind (accessAgreed (inputs 6 250) 1 memory 4 pc) _ _)
+
+  pub fetch-half : (half : ℕ) → accessAgreed (inputs 6 250) 1 memory 2 pc ≡ passed half → (half % 4 ≡ 3 → ⊥)
+      → fetch (inputs 6 250) standingCore memory steps pc ≡ expandedAs half
+  unfolding fetch fetchWord expandedAs decodedAs standingCore choose _>>=_
+  fetch-half half h e = rw (h, ne-eqb (half % 4) 3 e) (bind-bind (found 8 (standingCore .expand half)) _ _)

@@ -1,0 +1,86 @@
+-- Document 01's number and role for each refusal of the code, and what the code's answers are in the semantics.
+use Prim.Native.Nat.{ℕ}
+use Rattle.riscv_decode.specs.declared.Fetched.{Fetched}
+use Rattle.lane_word.specs.declared.LaneWord.{LaneWord}
+use Rattle.lane_word.specs.Word.{inputs}
+use Rattle.predicate_semantics.specs.Refusal.{Refusal, Tested, passed, refused, _>>=_, found}
+use Rattle.predicate_semantics.specs.Memory.{LaneBytes}
+use Rattle.predicate_semantics.specs.Lane.{accessAgreed}
+use Rattle.predicate_semantics.specs.Standing.{standingCore}
+use Rattle.lane_access.specs.declared.Role.{Role}
+use Rattle.lane_access.specs.declared.Role.the-variants as role
+use Rattle.lane_access.specs.declared.Rv32Error.{Rv32Error}
+use Rattle.lane_access.specs.declared.Rv32Error.the-variants as error
+use Rattle.lane_access.specs.declared.Verdict.{Verdict}
+use Rattle.lane_access.specs.declared.Verdict.the-variants as verdict
+use Rattle.lane_access.specs.declared.Agreed.{Agreed}
+use Rattle.lane_access.specs.declared.Agreed.the-variants as agreed
+use Rattle.lane_access.specs.declared.Accessed.{Accessed}
+use Rattle.lane_access.specs.declared.Fetching.{Fetching}
+use Rattle.lane_access.specs.declared.Fetching.the-variants as fetching
+
+-- "Roles of 6 and 7"
+abbrev pub roleOf : Role → ℕ
+roleOf role.Fetch = 1
+roleOf role.JumpTarget = 2
+roleOf role.LoadAddress = 3
+roleOf role.StoreAddress = 4
+roleOf role.Branch = 5
+roleOf role.ReturnValue = 6
+roleOf role.EventCount = 7
+roleOf role.EventOperation = 8
+roleOf role.EventOffset = 9
+roleOf role.EventValue = 10
+
+-- "Who causes a refusal": number and role
+abbrev pub refusalOf : Rv32Error → Refusal
+refusalOf error.ImageSize = record { number = 1; role = 0 }
+refusalOf error.SymbolOutside = record { number = 2; role = 0 }
+refusalOf error.StepLimit = record { number = 3; role = 0 }
+refusalOf error.BelowMemory = record { number = 4; role = 0 }
+refusalOf error.PastMemory = record { number = 5; role = 0 }
+refusalOf (error.Unknown r) = record { number = 6; role = roleOf r }
+refusalOf (error.NotUniform r) = record { number = 7; role = roleOf r }
+refusalOf error.Halfword = record { number = 8; role = 0 }
+refusalOf error.Word = record { number = 9; role = 0 }
+refusalOf error.ZeroTarget = record { number = 10; role = 0 }
+refusalOf error.StoreBelowImageEnd = record { number = 11; role = 0 }
+refusalOf error.EventCount = record { number = 12; role = 0 }
+refusalOf error.NoRow = record { number = 13; role = 0 }
+refusalOf error.NoTraceEntry = record { number = 14; role = 0 }
+
+abbrev pub verdictOf : Verdict → Tested (Unit {0})
+verdictOf verdict.Passed = passed tt
+verdictOf (verdict.Refused e) = refused (refusalOf e)
+
+abbrev pub agreedOf : Agreed → Tested ℕ
+agreedOf (agreed.Value v) = passed v
+agreedOf (agreed.Refused e) = refused (refusalOf e)
+
+-- a load's word stands beside its verdict
+abbrev pub loadedAs : Verdict → LaneWord → Tested LaneWord
+loadedAs verdict.Passed w = passed w
+loadedAs (verdict.Refused e) w = refused (refusalOf e)
+
+abbrev pub accessedOf : Accessed → Tested LaneWord
+accessedOf a = loadedAs (a .verdict) (a .word)
+
+abbrev pub fetchingOf : Fetching → Tested Fetched
+fetchingOf (fetching.Got f) = passed f
+fetchingOf (fetching.Refused e) = refused (refusalOf e)
+
+-- the parts of a fetch, as the semantics has them: the operation of a word, a halfword expanded, four bytes
+unfoldable pub decodedAs : ℕ → ℕ → Tested Fetched
+decodedAs word n = do
+  operation ← found 9 (standingCore .decode 0 word)
+  passed (record { operation = operation; length = n; word = word })
+
+unfoldable pub expandedAs : ℕ → Tested Fetched
+expandedAs half = do
+  word ← found 8 (standingCore .expand half)
+  decodedAs word 2
+
+unfoldable pub fourAs : LaneBytes → ℕ → Tested Fetched
+fourAs memory pc = do
+  word ← accessAgreed (inputs 6 250) 1 memory 4 pc
+  decodedAs word 4

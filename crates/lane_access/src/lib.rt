@@ -1,0 +1,244 @@
+// Loads and fetches of the lane run: the image, then zeros, under the written bytes.
+ghost use mathlib.Core.Path.{_≡_};
+ghost use Prim.Native.Nat.{ℕ, _+_, _≤_, _^_};
+ghost use Rattle.lane_word.specs.Word.{inputs};
+ghost use Rattle.predicate_semantics.specs.Memory.{read};
+ghost use Rattle.predicate_semantics.specs.Lane.{agreed, inside, access, accessAgreed, fetch};
+ghost use Rattle.predicate_semantics.specs.Standing.{standingCore};
+ghost use Rattle.lane_access.specs.Seen.{offsetOf, seen, FromImage};
+ghost use Rattle.lane_access.specs.Answers.{roleOf, verdictOf, agreedOf, accessedOf, fetchingOf, decodedAs, expandedAs, fourAs};
+use lane_word::LaneWord;
+use lane_word::Uniform;
+use riscv_decode::Decoded;
+use riscv_decode::Fetched;
+use riscv32imc::Expanded;
+
+// What a word that is not known or not uniform was read for.
+pub enum Role {
+    Fetch,
+    JumpTarget,
+    LoadAddress,
+    StoreAddress,
+    Branch,
+    ReturnValue,
+    EventCount,
+    EventOperation,
+    EventOffset,
+    EventValue,
+}
+
+// The refusals of a run.
+pub enum Rv32Error {
+    ImageSize,
+    SymbolOutside,
+    StepLimit,
+    BelowMemory,
+    PastMemory,
+    Unknown(Role),
+    NotUniform(Role),
+    Halfword,
+    Word,
+    ZeroTarget,
+    StoreBelowImageEnd,
+    EventCount,
+    NoRow,
+    NoTraceEntry,
+}
+
+// A test passed, or its refusal.
+pub enum Verdict {
+    Passed,
+    Refused(Rv32Error),
+}
+
+// What the lanes agree on.
+pub enum Agreed {
+    Value(u32),
+    Refused(Rv32Error),
+}
+
+// A load's lane word stands beside its answer, which is its verdict.
+pub struct Accessed {
+    pub verdict: Verdict,
+    pub word: LaneWord,
+}
+
+pub enum Fetching {
+    Got(Fetched),
+    Refused(Rv32Error),
+}
+
+// Range: an address below memory, then an access past its end.
+pub fn range_of(address: u32, width: u32) -> Verdict
+    ensures { λ r. ⌜ verdictOf r ≡ inside address width ⌝ }
+{
+    if address < riscv32imc::RV32_IMAGE_BASE {
+        return Verdict::Refused(Rv32Error::BelowMemory);
+    }
+    if 0x8020_0000 < (address as u64) + (width as u64) {
+        return Verdict::Refused(Rv32Error::PastMemory);
+    }
+    Verdict::Passed
+}
+
+// The lanes' common value, or the refusal in this role.
+pub fn agree(word: LaneWord, role: Role) -> Agreed
+    ensures { λ r. ⌜ agreedOf r ≡ agreed (inputs 6 250) (roleOf role) word ⌝ }
+{
+    let uniform = word.uniform_known();
+    match uniform {
+        Uniform::Value(value) => Agreed::Value(value),
+        Uniform::Unknown => Agreed::Refused(Rv32Error::Unknown(role)),
+        Uniform::Uneven => Agreed::Refused(Rv32Error::NotUniform(role)),
+    }
+}
+
+// Where an address lies in the image, if it lies there.
+fn offset_of(address: u32) -> usize
+    ensures { λ r. ⌜ r ≡ offsetOf address ⌝ }
+{
+    if address < riscv32imc::RV32_IMAGE_BASE {
+        return 0;
+    }
+    (address - riscv32imc::RV32_IMAGE_BASE) as usize
+}
+
+// The byte at an address; below the image's end nothing is written, so no row is looked for.
+fn byte_at(image: &[u8], rows: &[u8], address: u32) -> LaneWord
+    ensures { λ r. ⌜ r ≡ seen (now (image .entry)) (now (rows .entry)) address ⌝ }
+{
+    let offset = offset_of(address);
+    if offset < image.len() {
+        return LaneWord::constant(little_endian::get_u8(image, offset) as u32);
+    }
+    lane_memory::load_byte(rows, address, 0)
+}
+
+// The bytes from an address as one word, joined from the highest down.
+fn join_bytes(image: &[u8], rows: &[u8], address: u32, width: u32) -> LaneWord
+    requires { ⌜ address + width ≤ 2 ^ 32 ⌝ }
+    ensures { λ r. ⌜ r ≡ read 250 (seen (now (image .entry)) (now (rows .entry))) width address ⌝ }
+{
+    let mut word = LaneWord::constant(0);
+    let mut left = width;
+    while 0 < left {
+        left -= 1;
+        word = byte_at(image, rows, address + left).join(word);
+    }
+    word
+}
+
+// A number that the image holds whole; without it the bytes are joined.
+enum ImageNumber {
+    Number(u32),
+    Elsewhere,
+}
+
+fn image_number(image: &[u8], address: u32, width: u32) -> ImageNumber
+    ensures { λ r. ⌜ FromImage r (now (image .entry)) address width ⌝ }
+{
+    let offset = offset_of(address);
+    if image.len() <= offset {
+        return ImageNumber::Elsewhere;
+    }
+    let left = image.len() - offset;
+    if width == 2 && 2 <= left {
+        return ImageNumber::Number(little_endian::get_u16(image, offset) as u32);
+    }
+    if width == 4 && 4 <= left {
+        return ImageNumber::Number(little_endian::get_u32(image, offset));
+    }
+    ImageNumber::Elsewhere
+}
+
+// A load: range, then the bytes.
+pub fn access(image: &[u8], rows: &[u8], address: u32, width: u32) -> Accessed
+    ensures { λ r. ⌜ accessedOf r ≡ access (inputs 6 250) (seen (now (image .entry)) (now (rows .entry))) width address ⌝ }
+{
+    let range = range_of(address, width);
+    if let Verdict::Refused(error) = range {
+        return Accessed {
+            verdict: Verdict::Refused(error),
+            word: LaneWord::unknown(),
+        };
+    }
+    let number = image_number(image, address, width);
+    if let ImageNumber::Number(value) = number {
+        return Accessed {
+            verdict: Verdict::Passed,
+            word: LaneWord::constant(value),
+        };
+    }
+    Accessed {
+        verdict: Verdict::Passed,
+        word: join_bytes(image, rows, address, width),
+    }
+}
+
+// A load that has to be uniform; what the image holds is.
+pub fn access_agreed(image: &[u8], rows: &[u8], address: u32, width: u32, role: Role) -> Agreed
+    ensures { λ r. ⌜ agreedOf r ≡ accessAgreed (inputs 6 250) (roleOf role) (seen (now (image .entry)) (now (rows .entry))) width address ⌝ }
+{
+    let range = range_of(address, width);
+    if let Verdict::Refused(error) = range {
+        return Agreed::Refused(error);
+    }
+    let number = image_number(image, address, width);
+    if let ImageNumber::Number(value) = number {
+        return Agreed::Value(value);
+    }
+    agree(join_bytes(image, rows, address, width), role)
+}
+
+// The operation of a word, with its length.
+fn decoded(word: u32, length: u32) -> Fetching
+    ensures { λ r. ⌜ fetchingOf r ≡ decodedAs word length ⌝ }
+{
+    let known = riscv_decode::decode(word);
+    match known {
+        Decoded::Known(operation) => Fetching::Got(Fetched {
+            operation,
+            length,
+            word,
+        }),
+        Decoded::Refused => Fetching::Refused(Rv32Error::Word),
+    }
+}
+
+// A halfword, expanded.
+fn expanded(half: u16) -> Fetching
+    ensures { λ r. ⌜ fetchingOf r ≡ expandedAs half ⌝ }
+{
+    let expansion = riscv32imc::decompress(half);
+    match expansion {
+        Expanded::Word(word) => decoded(word, 2),
+        Expanded::Refused => Fetching::Refused(Rv32Error::Halfword),
+    }
+}
+
+// An instruction of four bytes.
+fn fetch_four(image: &[u8], rows: &[u8], pc: u32) -> Fetching
+    ensures { λ r. ⌜ fetchingOf r ≡ fourAs (seen (now (image .entry)) (now (rows .entry))) pc ⌝ }
+{
+    let whole = access_agreed(image, rows, pc, 4, Role::Fetch);
+    match whole {
+        Agreed::Value(word) => decoded(word, 4),
+        Agreed::Refused(error) => Fetching::Refused(error),
+    }
+}
+
+// Fetch: two bytes; expansion, or four bytes; the word's operation. The table is one for the whole run.
+pub fn fetch(image: &[u8], rows: &[u8], pc: u32) -> Fetching
+    ensures { λ r. ⌜ ((steps : ℕ) → fetchingOf r ≡ fetch (inputs 6 250) standingCore (seen (now (image .entry)) (now (rows .entry))) steps pc) ⌝ }
+{
+    let low = access_agreed(image, rows, pc, 2, Role::Fetch);
+    match low {
+        Agreed::Value(half) => {
+            if half % 4 == 3 {
+                return fetch_four(image, rows, pc);
+            }
+            expanded((half % 65536) as u16)
+        }
+        Agreed::Refused(error) => Fetching::Refused(error),
+    }
+}
