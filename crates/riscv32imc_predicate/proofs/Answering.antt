@@ -1,0 +1,99 @@
+-- From the run over cleared rows to its whole outcome: the result read off the code's own outputs, and demand 3 over it. Assumes nothing.
+use mathlib.Core.Path.{_≡_, refl, sym, ap, _∙_, subst}
+use mathlib.Core.List.{List, []}
+use mathlib.Core.Option.{some}
+use Prim.Native.Nat.{ℕ, _≤_}
+use lib.ListN.{length, take, drop}
+use lib.Seq.{take-append-seam}
+use Rattle.little_endian.specs.Lent.{over}
+use Rattle.riscv32imc.specs.Constants.{maxSteps}
+use Rattle.predicate_semantics.specs.declared.CompiledMmioEvent.{CompiledMmioEvent}
+use Rattle.predicate_semantics.specs.declared.PredicateControlStep.{PredicateControlStep}
+use Rattle.predicate_semantics.specs.declared.PredicateTransducerExecution.{PredicateTransducerExecution}
+use Rattle.predicate_semantics.specs.declared.Rv32SymbolLayout.{Rv32SymbolLayout}
+use Rattle.predicate_semantics.specs.State.{Result}
+use Rattle.predicate_semantics.specs.Refusal.{Tested, passed, refused}
+use Rattle.predicate_semantics.specs.Lane.{Ended, execution, LaneState}
+use Rattle.predicate_semantics.specs.Standing.{standing, setup, standingLaneRun, standingScalarRun}
+use Rattle.predicate_semantics.specs.Trace.{traceBytes, stepsAt}
+use Rattle.predicate_semantics.specs.Blank.{noEvents}
+use Rattle.predicate_semantics.specs.RecordRules.{Accepted}
+use Rattle.predicate_semantics.proofs.Guarantee.{guarantee}
+use Rattle.predicate_semantics.proofs.RecordRules as Rules
+use Rattle.predicate_semantics.proofs.TraceLaws.{trace-back, standing-trace-fits, standing-completed}
+use Rattle.lane_memory.specs.Rows.{rowCount, cleared}
+use Rattle.lane_memory.specs.Holds.{Holds}
+use Rattle.lane_memory.proofs.Laws.{holds-clear, cleared-twice}
+use Rattle.lane_access.specs.Answers.{refusalOf}
+use Rattle.riscv32imc_predicate.specs.declared.PredicateAnswer.{PredicateAnswer}
+use Rattle.riscv32imc_predicate.specs.declared.PredicateAnswer.the-variants as answer
+use Rattle.riscv32imc_predicate.specs.declared.PredicateRun.{PredicateRun}
+use Rattle.riscv32imc_predicate.specs.Tracking.{entryCount}
+use Rattle.riscv32imc_predicate.specs.Outcome.{resultBy, resultIn, executionIn, eventsIn, runOver, Says, Tells, Runs, Ran}
+
+module _ (image : List ℕ) (symbols : Rv32SymbolLayout) (n entries : ℕ) (lent : List ℕ) where
+  abbrev e : Ended
+  e = standingLaneRun image symbols n entries
+
+  -- an accepted run's result, read off its numbers, its events and the trace that it leaves
+  module _ (result : Result) (q : e .answer ≡ passed result) where
+    ended : Accepted (setup n entries) (e .state) result
+    unfolding standingLaneRun
+    ended = Rules.accepted (standing image symbols) (setup n entries) maxSteps result q
+
+    same-trace : stepsAt 0 (result .steps) (over (traceBytes (e .state .trace)) lent) ≡ result .trace
+    same-trace =
+        ap (λ (k : ℕ). stepsAt 0 k (over (traceBytes (e .state .trace)) lent)) (sym (standing-completed image symbols n entries .counted ∙ ended .steps))
+        ∙ trace-back (e .state .trace) lent (standing-trace-fits image symbols n entries) ∙ ended .trace
+
+    same-events : take (length (result .events)) (over (result .events) noEvents) ≡ result .events
+    same-events = take-append-seam (result .events) (drop (length (result .events)) noEvents)
+
+    read-back : resultBy answer.Accepted (execution (standing image symbols) (setup n entries) (e .state) result) (over (result .events) noEvents)
+        (over (traceBytes (e .state .trace)) lent)
+        ≡ passed result
+    unfolding execution
+    read-back = rw (same-trace, same-events) refl
+
+  result-of : (a : PredicateAnswer) (t : Tested Result) → e .answer ≡ t → Says a t
+      → resultBy a (executionIn image symbols n entries (e .state) t) (eventsIn t) (over (traceBytes (e .state .trace)) lent) ≡ t
+  result-of answer.Accepted t q (result, h) = rw h (read-back result (q ∙ h))
+  result-of (answer.Refused x) t q h = sym h
+
+-- cleared rows hold nothing
+pub holds-none : (rows rows₁ : List ℕ) → rows₁ ≡ cleared rows → Holds rows₁ (rowCount rows₁) []
+holds-none rows rows₁ c = rw c (subst (λ (k : ℕ). Holds (cleared rows) k []) (sym (holds-clear rows .rows)) (holds-clear rows))
+
+module _ (image : List ℕ) (symbols : Rv32SymbolLayout) (rows trace : List ℕ) where
+  same-count : rowCount (cleared rows) ≡ rowCount rows
+  same-count = holds-clear rows .rows
+
+  module _ (r : PredicateRun) (rows₁ rows₂ rows₃ trace′ : List ℕ) (c : rows₁ ≡ cleared rows) (s : Runs image symbols rows₁ trace r rows₂ trace′) where
+    same-run : rowCount rows₁ ≡ rowCount rows
+    same-run = ap rowCount c ∙ same-count
+
+    tells : Tells image symbols (rowCount rows) (entryCount trace) ((runOver image symbols rows trace) .state) ((runOver image symbols rows trace) .answer) r
+    tells =
+        subst
+        (λ (k : ℕ).
+        Tells image symbols k (entryCount trace) ((standingLaneRun image symbols k (entryCount trace)) .state) ((standingLaneRun image symbols k (entryCount trace)) .answer) r)
+        same-run (s .tells)
+
+    entries : trace′ ≡ over (traceBytes ((runOver image symbols rows trace) .state .trace)) trace
+    entries = subst (λ (k : ℕ). trace′ ≡ over (traceBytes ((standingLaneRun image symbols k (entryCount trace)) .state .trace)) trace) same-run (s .entries)
+
+    result : resultIn r trace′ ≡ (runOver image symbols rows trace) .answer
+    result =
+        rw (tells .numbers, tells .found, entries)
+        (result-of image symbols (rowCount rows) (entryCount trace) trace (r .answer) ((runOver image symbols rows trace) .answer) refl (tells .says))
+
+    pub ran : rows₃ ≡ cleared rows₂ → Ran image symbols rows trace r rows₃ trace′
+    ran z = record {
+      result = result;
+      completed = tells .completed;
+      numbers = tells .numbers;
+      found = tells .found;
+      entries = entries;
+      zero = z ∙ s .same-rows ∙ ap cleared c ∙ cleared-twice rows;
+      guarantee = λ a h. guarantee image symbols (rowCount rows) (entryCount trace) a (sym result ∙ h);
+    }

@@ -1,0 +1,10 @@
+-- Laws that the answers for the functions cite.
+mod Execution
+mod AtStop
+mod Following
+mod Locations
+mod Coming
+mod Stepping
+mod Looping
+mod Running
+mod Answering

@@ -1,0 +1,23 @@
+use mathlib.Core.Path.{_≡_}
+use borrow.Author.Needs.{needs}
+use borrow.Author.Tests.{lt-ltb, le-ltb}
+use Rattle.predicate_semantics.specs.Refusal.{_>>=_, refuse, require}
+use Rattle.riscv32imc_predicate.specs.Changes.{changeOf}
+use Rattle.riscv32imc_predicate.proofs.Following.{last-open}
+use Rattle.riscv32imc_predicate.proofs.step.last_test.Statement.{statement}
+use Rattle.riscv32imc_predicate.proofs.step.last_test.Tie as tie
+
+pub last-test-spec : {M : Type 1} → statement M
+unfolding _>>=_ refuse require
+last-test-spec =
+    tie.close
+    (tie.spec
+    (λ c w. rw (lt-ltb _ _ (c .if1 .taken)) (last-open (changeOf (c .before .args .change) w)))
+    (λ c. search needs)
+    (λ c. search needs)
+    (λ c. search needs)
+    (λ c. search needs)
+    (λ c w. rw (c .enum-told .given .1, le-ltb _ _ (c .before .before .if1 .left)))
+    (λ c w. rw (c .enum-told2 .given .1, le-ltb _ _ (c .before .before .if1 .left)))
+    (λ c w. rw (c .enum-told3 .given .1, le-ltb _ _ (c .before .before .if1 .left)))
+    (λ c w. rw (c .before .change .given .1)))

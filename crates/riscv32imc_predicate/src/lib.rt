@@ -1,0 +1,106 @@
+// The lane run: an image executed once, with a lane for each input that names no channel.
+mod execute;
+mod finish;
+mod run;
+mod step;
+
+ghost use Rattle.riscv32imc_predicate.specs.Outcome.{Ran};
+use lane_access::Rv32Error;
+use lane_word::LaneWord;
+use predicate_action::Action;
+use predicate_semantics::CompiledMmioEvent;
+use predicate_semantics::PredicateTransducerExecution;
+use predicate_semantics::Rv32SymbolLayout;
+
+// The address of the stop word, and the word.
+const STOP: u32 = 0x801F_FFFC;
+
+const STOP_WORD: u32 = 0x0010_0073;
+
+// Bytes of a trace entry.
+pub const ENTRY_BYTES: usize = 13;
+
+// What an operation changes; the value that it sets or stores stands beside it.
+enum Change {
+    Goes { next: u32 },
+    Sets { rd: u32, next: u32 },
+    Stores { address: u32, width: u32, next: u32 },
+    Refused(Rv32Error),
+}
+
+struct Executed {
+    change: Change,
+    value: LaneWord,
+}
+
+// Where a completed step leaves the run, besides registers and memory.
+struct Place {
+    pc: u32,
+    steps: u32,
+    written: u32,
+    recorded: u32,
+    locations: [u32; 32],
+}
+
+// How a run ends before its answer.
+enum Ending {
+    Arrived,
+    Refused(Rv32Error),
+}
+
+// The place, and the instruction fetched there; without one, how the run ends.
+struct Progress {
+    more: bool,
+    ending: Ending,
+    action: Action,
+    word: u32,
+    length: u32,
+    rs1: usize,
+    rs2: usize,
+    place: Place,
+}
+
+// What a step leaves: the register it sets, 0 for none, and what comes after.
+struct Effect {
+    rd: u32,
+    value: LaneWord,
+    progress: Progress,
+}
+
+struct Registers {
+    words: [LaneWord; 32],
+}
+
+// Where the loop ends.
+struct Reached {
+    progress: Progress,
+    x10: LaneWord,
+}
+
+pub enum PredicateAnswer {
+    Accepted,
+    Refused(Rv32Error),
+}
+
+// What a run answers beside its trace. After a refusal only the answer and the steps count; of the events the first `event_count` do.
+pub struct PredicateRun {
+    pub answer: PredicateAnswer,
+    pub steps: u32,
+    pub execution: PredicateTransducerExecution,
+    pub events: [CompiledMmioEvent; 32],
+}
+
+// The run; the lent rows are zero before and after it.
+pub fn execute_invalid_channel_predicate(
+    image: &[u8],
+    symbols: Rv32SymbolLayout,
+    rows: &mut [u8],
+    trace: &mut [u8],
+) -> PredicateRun
+    ensures { λ r. ⌜ Ran (now (image .entry)) symbols (now (rows .entry)) (now (trace .entry)) r (now (rows .exit)) (now (trace .exit)) ⌝ }
+{
+    lane_memory::clear(rows);
+    let outcome = run::run(image, symbols, rows, trace);
+    lane_memory::clear(rows);
+    outcome
+}
