@@ -1,0 +1,120 @@
+-- What a reader has of the bytes that a run wrote is what each input's scalar run answers. Assumes nothing.
+use mathlib.Core.Path.{_≡_, refl, sym, ap, _∙_, subst}
+use mathlib.Core.Bool.{Bool, true, false, cond}
+use mathlib.Core.Option.{Option, some}
+use mathlib.Core.List.{List}
+use Prim.Native.Nat.{ℕ, _≤_, _*_}
+use native.Mathlib.Omega.{arith}
+use borrow.Author.Tests.{leb-true}
+use lib.Dec.{leb}
+use lib.ListN.{length, take, drop}
+use lib.Seq.{take-append-seam}
+use Rattle.little_endian.specs.Lent.{over}
+use Rattle.riscv32imc.specs.Constants.{maxSteps}
+use Rattle.predicate_semantics.specs.declared.PredicateTransducerExecution.{PredicateTransducerExecution}
+use Rattle.predicate_semantics.specs.declared.PredicateControlStep.{PredicateControlStep}
+use Rattle.predicate_semantics.specs.declared.Rv32SymbolLayout.{Rv32SymbolLayout}
+use Rattle.predicate_semantics.specs.State.{Result}
+use Rattle.predicate_semantics.specs.Refusal.{Tested, passed}
+use Rattle.predicate_semantics.specs.Refusal as Refusal
+use Rattle.predicate_semantics.specs.Lane.{LaneState, Ended, execution}
+use Rattle.predicate_semantics.specs.RecordRules.{Accepted}
+use Rattle.predicate_semantics.specs.Standing.{standing, setup, standingLaneRun, standingScalarRun}
+use Rattle.predicate_semantics.specs.Blank.{noEvents}
+use Rattle.predicate_semantics.specs.Trace.{traceBytes, stepsAt}
+use Rattle.predicate_semantics.proofs.RecordRules as Rules
+use Rattle.predicate_semantics.proofs.TraceLaws.{standing-completed, standing-trace-fits, trace-back}
+use Rattle.predicate_semantics.proofs.Guarantee.{guarantee}
+use Rattle.lane_record.specs.declared.RecordRefusal.{RecordRefusal}
+use Rattle.lane_record.specs.declared.RecordAnswer.{RecordAnswer}
+use Rattle.lane_record.specs.declared.RecordAnswer.the-variants as recorded
+use Rattle.lane_record.specs.declared.RecordOutcome.{RecordOutcome}
+use Rattle.lane_record.specs.declared.RecordReading.{RecordReading}
+use Rattle.lane_record.specs.declared.WriteAnswer.{WriteAnswer}
+use Rattle.lane_record.specs.Format.{Record, accepted, refused, encode}
+use Rattle.lane_record.specs.Decode.{decode}
+use Rattle.lane_record.specs.Answers.{Said, done, wrote, refuses, readSaid, writeSaid, acceptedOutcome, noOutcome, Reads, Writes}
+use Rattle.lane_record.specs.Runs.{recordIn}
+use Rattle.lane_library.specs.Outcome.{resultRead, Promise}
+
+-- ---- what is written
+
+fits-by : (n l m : ℕ) (b : Bool) → leb l m ≡ b → wrote n ≡ cond {A = Said} b (wrote l) (refuses 16) → (n ≡ l) × (l ≤ m)
+fits-by n l m true e q = ((cc), leb-true l m e)
+fits-by n l m false e q = let z : _≡_ {A = ℕ} 0 1 = cc in absurd (omega arith)
+
+module _ (x : Record) (output : List ℕ) (w : WriteAnswer) (output′ : List ℕ) (h : Writes (some x) output w output′) where
+  -- what is written is the whole record, and fits
+  pub written : (n : ℕ) → writeSaid w ≡ wrote n → (n ≡ length (encode x)) × (length (encode x) ≤ length output)
+  written n e = fits-by n (length (encode x)) (length output) (leb (length (encode x)) (length output)) refl (sym e ∙ h .answer)
+
+  -- and reads as itself
+  pub decodes : (n : ℕ) → writeSaid w ≡ wrote n → decode (take n output′) ≡ some x
+  decodes n e = let f = written n e in subst (λ (k : ℕ). decode (take k output′) ≡ some x) (sym (f .0)) (h .back x refl (f .1))
+
+-- ---- what is read of it
+
+-- a refusal is never read as an acceptance
+pub never : (f : RecordRefusal) (t : List ℕ) (g : RecordReading) (t′ : List ℕ) → Reads (some (refused f)) t g t′
+    → g .outcome .answer ≡ recorded.Accepted → ⊥
+never f t g t′ h a =
+    let c : recorded.Accepted ≡ recorded.Refused f = sym a ∙ ap (λ (o : RecordOutcome). o .answer) (h .outcome) in
+    let z : _≡_ {A = ℕ} 0 1 = cc in absurd (omega arith)
+
+module _ (image : List ℕ) (symbols : Rv32SymbolLayout) (rows entries : ℕ) where
+  abbrev e : Ended
+  e = standingLaneRun image symbols rows entries
+
+  abbrev s : LaneState
+  s = e .state
+
+  module _ (r : Result) (q : e .answer ≡ passed r) (t : List ℕ) where
+    ended : Accepted (setup rows entries) s r
+    unfolding standingLaneRun
+    ended = Rules.accepted (standing image symbols) (setup rows entries) maxSteps r q
+
+    same-trace : stepsAt 0 (r .steps) (over (traceBytes (r .trace)) t) ≡ r .trace
+    same-trace =
+        subst (λ (ss : List PredicateControlStep). stepsAt 0 (r .steps) (over (traceBytes ss) t) ≡ ss) (ended .trace)
+        (ap (λ (k : ℕ). stepsAt 0 k (over (traceBytes (s .trace)) t)) (sym (standing-completed image symbols rows entries .counted ∙ ended .steps))
+        ∙ trace-back (s .trace) t (standing-trace-fits image symbols rows entries))
+
+    same-events : take (length (r .events)) (over (r .events) noEvents) ≡ r .events
+    same-events = take-append-seam (r .events) (drop (length (r .events)) noEvents)
+
+    abbrev numbers : PredicateTransducerExecution
+    numbers = execution (standing image symbols) (setup rows entries) s r
+
+    read-back : resultRead (acceptedOutcome numbers (r .events)) (over (traceBytes (r .trace)) t) ≡ r
+    unfolding execution
+    read-back = rw (same-trace, same-events) refl
+
+    read-by : (b : Bool) (o : RecordOutcome) (t′ : List ℕ) → done ≡ cond {A = Said} b done (refuses 14)
+        → o ≡ cond b (acceptedOutcome numbers (r .events)) noOutcome → t′ ≡ cond b (over (traceBytes (r .trace)) t) t
+        → resultRead o t′ ≡ r
+    read-by true o t′ d p u = rw (p, u) read-back
+    read-by false o t′ d p u = let z : _≡_ {A = ℕ} 0 1 = cc in absurd (omega arith)
+
+  answered : (a : Tested Result) → e .answer ≡ a
+      → (t : List ℕ) (g : RecordReading) (t′ : List ℕ) → Reads (some (recordIn image symbols rows entries s a)) t g t′
+      → readSaid (g .answer) ≡ done → g .outcome .answer ≡ recorded.Accepted
+      → (i : ℕ) → 6 ≤ i → i ≤ 255
+      → (others : ℕ → ℕ) → standingScalarRun image symbols i others ≡ some (resultRead (g .outcome) t′)
+  answered (passed r) q t g t′ h d a i low high others =
+      guarantee image symbols rows entries r q i low high others
+      ∙ ap (λ (x : Result). some x)
+      (sym (read-by r q t (leb (numbers r q t .«symbolic_transitions» * 13) (length t)) (g .outcome) t′ (sym d ∙ h .answer) (h .outcome) (h .trace)))
+  answered (Refusal.refused f) q t g t′ h d a i low high others =
+      absurd (never _ t g t′ h a)
+
+  -- the promise, of what is written of a run
+  pub promise-run : (output : List ℕ) (w : WriteAnswer) (output′ : List ℕ)
+      → Writes (some (recordIn image symbols rows entries s (e .answer))) output w output′ → Promise image symbols w output′
+  promise-run output w output′ h n p t g t′ v d a =
+      answered (e .answer) refl t g t′ (subst (λ (x : Option Record). Reads x t g t′) (decodes _ output w output′ h n p) v) d a
+
+-- and of a refused input, which no reader takes for an acceptance
+pub promise-refused : (image : List ℕ) (symbols : Rv32SymbolLayout) (f : RecordRefusal) (output : List ℕ) (w : WriteAnswer) (output′ : List ℕ)
+    → Writes (some (refused f)) output w output′ → Promise image symbols w output′
+promise-refused image symbols f output w output′ h n p t g t′ v d a i low high others =
+    absurd (never f t g t′ (subst (λ (x : Option Record). Reads x t g t′) (decodes (refused f) output w output′ h n p) v) a)

@@ -1,0 +1,23 @@
+use denote.Ref.{now}
+use borrow.Author.Needs.{needs}
+use Rattle.lane_library.proofs.Laws.{gives-run}
+use Rattle.lane_library.proofs.run_image.Statement.{statement}
+use Rattle.lane_library.proofs.run_image.Tie as tie
+
+pub run-image-spec : {M : Type 1} → statement M
+run-image-spec =
+    tie.close
+    (tie.spec
+    (λ c κs. search needs)
+    (λ c κs. search needs)
+    (λ c κs. search needs)
+    (λ c. search needs)
+    (λ c. search needs)
+    (λ c. search needs)
+    (λ c.
+    let w = c .before .before in
+    let o = w .before .before .before in
+    let e = o .before .before .before .before .before in
+    let a = e .before .before .before .before .before .before .before .args in
+    let h = e .execute-invalid-channel-predicate .ensures in
+    (gives-run (now (a .image)) (a .symbols) (now (a .rows)) (now (a .trace)) _ _ _ h _ _ _ _ (o .outcome-of .ensures) (w .write-record .ensures), h .entries)))

@@ -1,0 +1,99 @@
+-- The record that an input stands for, and what the run over it answers and leaves (document 01, "Record" and "Who causes a refusal").
+use mathlib.Core.Path.{_≡_}
+use mathlib.Core.Bool.{Bool, true, false}
+use mathlib.Core.Option.{some}
+use mathlib.Core.List.{List}
+use Prim.Native.Nat.{ℕ, _≤_}
+use lib.ListN.{length, take}
+use Rattle.little_endian.specs.Lent.{over}
+use Rattle.predicate_semantics.specs.declared.Rv32SymbolLayout.{Rv32SymbolLayout}
+use Rattle.predicate_semantics.specs.State.{Result}
+use Rattle.predicate_semantics.specs.Standing.{standingScalarRun}
+use Rattle.predicate_semantics.specs.Trace.{traceBytes, stepsAt}
+use Rattle.lane_memory.specs.Rows.{rowCount, cleared}
+use Rattle.lane_access.specs.Answers.{refusalOf}
+use Rattle.lane_record.specs.declared.RecordRefusal.{RecordRefusal}
+use Rattle.lane_record.specs.declared.RecordAnswer.{RecordAnswer}
+use Rattle.lane_record.specs.declared.RecordAnswer.the-variants as recorded
+use Rattle.lane_record.specs.declared.RecordOutcome.{RecordOutcome}
+use Rattle.lane_record.specs.declared.RecordReading.{RecordReading}
+use Rattle.lane_record.specs.declared.WriteAnswer.{WriteAnswer}
+use Rattle.lane_record.specs.Format.{Record, refused}
+use Rattle.lane_record.specs.Decode.{decode}
+use Rattle.lane_record.specs.Answers.{wrote, done, readSaid, writeSaid, refusedOutcome, Reads, Writes}
+use Rattle.lane_record.specs.Runs.{recordIn}
+use Rattle.riscv32imc_predicate.specs.declared.PredicateAnswer.{PredicateAnswer}
+use Rattle.riscv32imc_predicate.specs.declared.PredicateAnswer.the-variants as answer
+use Rattle.riscv32imc_predicate.specs.declared.PredicateRun.{PredicateRun}
+use Rattle.riscv32imc_predicate.specs.Tracking.{entryCount}
+use Rattle.riscv32imc_predicate.specs.Outcome.{runOver}
+use Rattle.lane_library.specs.Inputs.{symbolsIn, imageIn, taken}
+
+-- "A run's refusal gives number, role (else 0) and completed steps"
+abbrev pub answerOf : PredicateAnswer → ℕ → RecordAnswer
+answerOf answer.Accepted n = recorded.Accepted
+answerOf (answer.Refused x) n = recorded.Refused (record { number = refusalOf x .number; role = refusalOf x .role; steps = n })
+
+-- what the writer is given of a run
+abbrev pub outcomeOf : PredicateRun → RecordOutcome
+outcomeOf r = record { answer = answerOf (r .answer) (r .steps); execution = r .execution; events = r .events }
+
+-- refusal 1, before any step
+abbrev pub sizeRefusal : RecordRefusal
+sizeRefusal = record { number = 1; role = 0; steps = 0 }
+
+abbrev pub refusedInput : RecordOutcome
+refusedInput = refusedOutcome sizeRefusal
+
+-- ---- the record, and the lent memory after it
+
+-- the record of an image's run over the whole rows and entries that are lent
+abbrev pub imageRecord : List ℕ → Rv32SymbolLayout → List ℕ → List ℕ → Record
+imageRecord image symbols rows trace =
+    recordIn image symbols (rowCount rows) (entryCount trace)
+    ((runOver image symbols rows trace) .state) ((runOver image symbols rows trace) .answer)
+
+-- "Trace entries of completed steps stay, later ones are untouched"
+abbrev pub imageTrace : List ℕ → Rv32SymbolLayout → List ℕ → List ℕ → List ℕ
+imageTrace image symbols rows trace = over (traceBytes ((runOver image symbols rows trace) .state .trace)) trace
+
+-- the record that an input stands for: its image's, where it is one that the program takes
+abbrev pub recordBy : Bool → List ℕ → List ℕ → List ℕ → Record
+recordBy true input rows trace = imageRecord (imageIn input) (symbolsIn input) rows trace
+recordBy false input rows trace = refused sizeRefusal
+
+abbrev pub traceBy : Bool → List ℕ → List ℕ → List ℕ → List ℕ
+traceBy true input rows trace = imageTrace (imageIn input) (symbolsIn input) rows trace
+traceBy false input rows trace = trace
+
+-- what is written of a record, with the rows after a run: never 15
+pub record Gives (x : Record) (rows output : List ℕ) (r : WriteAnswer) (rows′ output′ : List ℕ) : Type 0 where
+  -- the record's bytes, or 16 and nothing
+  pub writes : Writes (some x) output r output′
+  -- "rows may hold anything before a run and are zero after every run, refused ones included"
+  pub zero : rows′ ≡ cleared rows
+
+-- what a reader has of a result: "return value, steps, events and locations; its trace is the first lent entries"
+abbrev pub resultRead : RecordOutcome → List ℕ → Result
+resultRead o t =
+    record {
+      returnValue = o .execution .«return_value»;
+      steps = o .execution .«symbolic_transitions»;
+      trace = stepsAt 0 (o .execution .«symbolic_transitions») t;
+      events = take (o .execution .«event_count») (o .events);
+    }
+
+-- demand 3 of the bytes themselves: what read_record gives of a written 01 is each input's scalar run, whatever the 28 other registers hold
+abbrev pub Promise : List ℕ → Rv32SymbolLayout → WriteAnswer → List ℕ → Type 0
+Promise image symbols r output =
+    (n : ℕ) → writeSaid r ≡ wrote n
+    → (t : List ℕ) (reading : RecordReading) (t′ : List ℕ) → Reads (decode (take n output)) t reading t′
+    → readSaid (reading .answer) ≡ done → reading .outcome .answer ≡ recorded.Accepted
+    → (i : ℕ) → 6 ≤ i → i ≤ 255
+    → (others : ℕ → ℕ) → standingScalarRun image symbols i others ≡ some (resultRead (reading .outcome) t′)
+
+-- the one outcome for each input, and every lent byte after it
+pub record LaneRuns (input rows trace output : List ℕ) (r : WriteAnswer) (rows′ trace′ output′ : List ℕ) : Type 0 where
+  pub gives : Gives (recordBy (taken input) input rows trace) rows output r rows′ output′
+  pub entries : trace′ ≡ traceBy (taken input) input rows trace
+  pub promise : Promise (imageIn input) (symbolsIn input) r output′
