@@ -1,0 +1,243 @@
+//! One case on all sides, and the count of how each class ended.
+
+use crate::answer::{Accepted, Answer, Case};
+use crate::boundaries::AMPLE;
+use crate::model::Model;
+use crate::original;
+use crate::port::{ENTRY, Lent, Port, ROW};
+use crate::random::Random;
+use crate::scalar::Scalar;
+use std::collections::BTreeMap;
+
+/// More than the entries that are lent to short runs.
+pub const PATIENCE: usize = 5_000;
+
+#[derive(Default)]
+pub struct Tally {
+    pub cases: u64,
+    pub kinds: BTreeMap<String, u64>,
+    pub scalar_runs: u64,
+    pub scalar_steps: u64,
+    pub differences: u64,
+}
+
+pub struct Comparer {
+    port: Port,
+    model: Model,
+    scalar: Scalar,
+    random: Random,
+    limit: usize,
+    /// Steps above which the Rust isn't asked.
+    pub patience: usize,
+    /// Scalar steps to spend on one accepted image.
+    pub budget: u64,
+    pub classes: BTreeMap<String, Tally>,
+    /// Whether the last case was lent enough rows and entries.
+    pub enough: bool,
+    /// The first differences, in words.
+    pub told: Vec<String>,
+}
+
+/// The program `lane-run` refuses larger images; the library it is built on may.
+const PROGRAM_LIMIT: usize = 32_768;
+
+const TOO_LARGE: Answer = Answer::Refused { number: 1, role: 0, steps: 0 };
+
+/// Whether the library has the program's limit.
+fn limited(port: &mut Port) -> bool {
+    let mut image = vec![0x05, 0x45, 0x82, 0x80];
+    image.resize(PROGRAM_LIMIT + 1, 0);
+    port.check(&Case::plain(image).input(), AMPLE, &TOO_LARGE.record(), &[], 0).is_ok()
+}
+
+impl Comparer {
+    pub fn new(seed: u64, budget: u64) -> Self {
+        let mut port = Port::new();
+        let limit = if limited(&mut port) { PROGRAM_LIMIT } else { usize::MAX };
+        Self {
+            port,
+            limit,
+            model: Model::default(),
+            scalar: Scalar::default(),
+            random: Random::new(seed ^ 0x5ca1_a400),
+            patience: PATIENCE,
+            budget,
+            classes: BTreeMap::new(),
+            enough: true,
+            told: Vec::new(),
+        }
+    }
+
+    /// How many differences there were.
+    pub fn differences(&self) -> u64 {
+        self.classes.values().map(|tally| tally.differences).sum()
+    }
+
+    /// The Rust's answer with the steps of a refusal, which the model tells and the count of decoded words confirms.
+    /// A run above `patience` steps is 14 here: the model alone tells it, since most such runs go in circles.
+    fn judged(&mut self, case: &Case) -> Result<Answer, String> {
+        let model = self.model.run(case, usize::MAX, self.patience);
+        if matches!(model, Answer::Refused { number: 14, .. }) {
+            return Ok(model);
+        }
+        let original = original::run(case);
+        let agreed = match (&original.result, &model) {
+            (Ok(result), Answer::Accepted(found)) => result == found && original.decoded as usize == result.trace.len(),
+            (Err((number, role)), Answer::Refused { number: n, role: r, steps }) => {
+                let begun = original.decoded.wrapping_sub(*steps);
+                let last = match (number, role) {
+                    (1 | 2 | 3 | 8 | 12, _) | (_, 1 | 6..) => begun == 0,
+                    (4 | 5, _) => begun <= 1,
+                    _ => begun == 1,
+                };
+                (number, role) == (n, r) && last
+            }
+            _ => false,
+        };
+        if agreed {
+            return Ok(model);
+        }
+        let said = original.result.map(|result| result.trace.len());
+        Err(format!("the Rust says {said:?} after {} words, the model {}", original.decoded, model.kind()))
+    }
+
+    /// Feeds a case to the Rust, the model and the port, and an accepted one to the scalar run; gives the Rust's answer.
+    pub fn compare(&mut self, class: &str, name: &str, case: &Case, lent: Lent) -> Option<Answer> {
+        let judged = self.judged(case);
+        let answer = judged.as_ref().ok().cloned();
+        let found = judged.and_then(|answer| self.held(case, lent, answer));
+        let scalars = match &answer {
+            Some(Answer::Accepted(result)) => self.scalars(case, result),
+            _ => Ok((0, 0)),
+        };
+        let tally = self.classes.entry(class.into()).or_default();
+        tally.cases += 1;
+        match found.and_then(|kind| Ok((kind, scalars?))) {
+            Ok((kind, (runs, steps))) => {
+                *tally.kinds.entry(kind).or_default() += 1;
+                tally.scalar_runs += runs;
+                tally.scalar_steps += steps;
+            }
+            Err(fault) => {
+                tally.differences += 1;
+                if self.told.len() < 10 {
+                    let told = self.tell(case, lent, &fault);
+                    self.told.push(format!("{class} {name}: {told}"));
+                }
+            }
+        }
+        answer
+    }
+
+    /// What differs between the Rust, the model and the port, if anything does.
+    fn fault(&mut self, case: &Case, lent: Lent) -> Option<String> {
+        self.judged(case).and_then(|answer| self.held(case, lent, answer)).err()
+    }
+
+    /// A difference in words, with the smallest image found for it: parts are left out, then bytes made zero, while anything differs.
+    fn tell(&mut self, case: &Case, lent: Lent, fault: &str) -> String {
+        let mut case = case.clone();
+        let mut fault = fault.to_string();
+        let mut part = case.image.len().min(4096) / 2;
+        while part > 0 {
+            let mut at = 0;
+            while at + part <= case.image.len() {
+                let mut less = case.clone();
+                less.image.drain(at..at + part);
+                match self.fault(&less, lent) {
+                    Some(other) => (case, fault) = (less, other),
+                    None => at += part,
+                }
+            }
+            part /= 2;
+        }
+        for at in 0..case.image.len().min(1000) {
+            let mut less = case.clone();
+            less.image[at] = 0;
+            if case.image[at] != 0 && self.fault(&less, lent).is_some() {
+                case = less;
+            }
+        }
+        let kind = self.judged(&case).map(|answer| answer.kind());
+        let symbols = [case.entry, case.event_count, case.events];
+        format!("{fault}\n  Rust: {kind:?}; {lent:?}; symbols {symbols:08x?}; image {:02x?}", &case.image[..case.image.len().min(400)])
+    }
+
+    /// The port against the judged answer, on lent memory that may be too short; how the run ended.
+    fn held(&mut self, case: &Case, lent: Lent, answer: Answer) -> Result<String, String> {
+        if case.image.len() > self.limit {
+            self.port.check(&case.input(), lent, &TOO_LARGE.record(), &[], 0)?;
+            return Ok("1 by the program's limit".into());
+        }
+        let (rows, entries) = (lent.rows / ROW, lent.trace / ENTRY);
+        let alone = if matches!(answer, Answer::Refused { number: 14, .. }) { ", by the model alone" } else { "" };
+        let enough = self.model.written <= rows && rows >= 4 && self.model.trace.len() <= entries;
+        self.enough = enough;
+        let expected = if enough { answer } else { self.model.run(case, rows, entries) };
+        let record = expected.record();
+        let soiled = if self.random.chance(10) { self.random.word() as u8 } else { 0 };
+        if soiled != 0 {
+            self.port.soil(lent.rows, soiled);
+        }
+        self.port.check(&case.input(), lent, &record, &self.model.trace, soiled)?;
+        if enough && matches!(expected, Answer::Refused { number: 14, .. }) {
+            return Err("lent more than patience".into());
+        }
+        let short = if record.len() <= lent.output { "" } else { ", 16" };
+        Ok(format!("{}{short}{alone}", expected.kind()))
+    }
+
+    /// Scalar runs of an accepted image: all 250 inputs, each with one of several fillings, as often as the budget allows; else some.
+    fn scalars(&mut self, case: &Case, result: &Accepted) -> Result<(u64, u64), String> {
+        let steps = result.trace.len() as u64;
+        let mut fillings = [[0; 32], [u32::MAX; 32], [0x8010_0000; 32], [0; 32], [0; 32]];
+        fillings[3..].iter_mut().flatten().for_each(|value| *value = self.random.word());
+        let rounds = (self.budget / (250 * steps)).min(fillings.len() as u64) as usize;
+        let mut runs = 0;
+        let mut run = |scalar: &mut Scalar, input: u32, filling: &[u32; 32]| {
+            runs += 1;
+            scalar.agrees(case, input, filling, result).then_some(()).ok_or(format!("scalar run of input {input} with {filling:08x?}"))
+        };
+        for filling in fillings.iter().take(rounds) {
+            (6..256).try_for_each(|input| run(&mut self.scalar, input, filling))?;
+        }
+        if rounds == 0 {
+            for (index, input) in [6, 7, 128, 254, 255].into_iter().enumerate() {
+                run(&mut self.scalar, input, &fillings[index])?;
+            }
+        }
+        Ok((runs, runs * steps))
+    }
+
+    /// Inputs too short for an image: 1, and the rows are zero.
+    pub fn short_inputs(&mut self) {
+        for (length, soiled) in (0..13).flat_map(|length| [(length, 0), (length, 0x55)]) {
+            self.port.soil(AMPLE.rows, soiled);
+            let checked = self.port.check(&vec![0x80; length], AMPLE, &TOO_LARGE.record(), &[], soiled);
+            let tally = self.classes.entry("short inputs".into()).or_default();
+            tally.cases += 1;
+            match checked {
+                Ok(()) => *tally.kinds.entry("1".into()).or_default() += 1,
+                Err(fault) => {
+                    tally.differences += 1;
+                    self.told.push(format!("an input of {length} bytes, rows of {soiled:02x}: {fault}"));
+                }
+            }
+        }
+    }
+
+    pub fn report(&self) {
+        for (class, tally) in &self.classes {
+            let kinds: Vec<String> = tally.kinds.iter().map(|(kind, count)| format!("{kind}: {count}")).collect();
+            println!(
+                "{class}: {} cases, {} differences, {} scalar runs ({} steps)",
+                tally.cases, tally.differences, tally.scalar_runs, tally.scalar_steps
+            );
+            println!("    {}", kinds.join(", "));
+        }
+        let cases: u64 = self.classes.values().map(|tally| tally.cases).sum();
+        let runs: u64 = self.classes.values().map(|tally| tally.scalar_runs).sum();
+        println!("{cases} cases, {} differences, {runs} scalar runs", self.differences());
+        self.told.iter().for_each(|told| println!("DIFFERENCE {told}"));
+    }
+}

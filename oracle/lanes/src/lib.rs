@@ -1,0 +1,16 @@
+//! The lane run three times over: the Rust's own files, unchanged; the port, linked as a static library; and a model written from
+//! document 01, for what the Rust doesn't say (steps of a refusal, lent memory). With it demand 3's scalar run, and cases for all.
+
+include!(concat!(env!("OUT_DIR"), "/sources.rs"));
+
+pub mod answer;
+pub mod asm;
+pub mod boundaries;
+pub mod cases;
+pub mod compare;
+pub mod machine;
+pub mod model;
+pub mod original;
+pub mod port;
+pub mod random;
+pub mod scalar;

@@ -1,0 +1,232 @@
+//! Document 01's lane run with lent memory, for what the Rust doesn't say: the completed steps of a refusal, refusals 13 and 14,
+//! and the trace up to a refusal. The Rust stays the judge: where it differs from this model, the model is wrong.
+
+use crate::answer::{Accepted, Answer, Case, Step};
+use crate::machine::*;
+
+const LANES: usize = 250;
+
+#[derive(Clone, Copy)]
+struct Lanes {
+    values: [u32; LANES],
+    known: bool,
+}
+
+impl Lanes {
+    fn constant(value: u32) -> Self {
+        Self { values: [value; LANES], known: true }
+    }
+
+    fn uniform(&self, role: u8) -> Result<u32, (u8, u8)> {
+        if !self.known {
+            return Err((6, role));
+        }
+        if self.values.iter().any(|value| *value != self.values[0]) {
+            return Err((7, role));
+        }
+        Ok(self.values[0])
+    }
+
+    fn map(&self, function: impl Fn(u32) -> u32) -> Self {
+        Self { values: std::array::from_fn(|lane| function(self.values[lane])), known: self.known }
+    }
+
+    fn zip(&self, right: &Self, function: Function) -> Self {
+        Self { values: std::array::from_fn(|lane| function(self.values[lane], right.values[lane])), known: self.known && right.known }
+    }
+}
+
+/// Written bytes: which cell holds an address (0: none), and the cells.
+pub struct Model {
+    place: Vec<u32>,
+    addresses: Vec<usize>,
+    cells: Vec<([u8; LANES], bool)>,
+    pub trace: Vec<Step>,
+    /// Distinct bytes written when the run ended.
+    pub written: usize,
+    locations: Vec<u32>,
+}
+
+impl Default for Model {
+    fn default() -> Self {
+        Self {
+            place: vec![0; MEMORY as usize],
+            addresses: Vec::new(),
+            cells: Vec::new(),
+            trace: Vec::new(),
+            written: 0,
+            locations: Vec::new(),
+        }
+    }
+}
+
+type Refusal = (u8, u8);
+
+fn plain(number: u8) -> Refusal {
+    (number, 0)
+}
+
+impl Model {
+    pub fn run(&mut self, case: &Case, rows: usize, entries: usize) -> Answer {
+        self.trace.clear();
+        self.locations.clear();
+        let ended = self.answer(case, rows, entries);
+        for at in self.addresses.drain(..) {
+            self.place[at] = 0;
+        }
+        self.written = self.cells.len();
+        self.cells.clear();
+        match ended {
+            Ok(result) => Answer::Accepted(result),
+            Err((number, role)) => Answer::Refused { number, role, steps: self.trace.len() as u32 },
+        }
+    }
+
+    fn load(&self, image: &[u8], address: u32, width: u32) -> Result<Lanes, Refusal> {
+        let at = in_range(address, width).map_err(plain)?;
+        let mut word = Lanes::constant(0);
+        for byte in 0..width as usize {
+            match self.place[at + byte] {
+                0 => {
+                    let value = u32::from(image.get(at + byte).copied().unwrap_or(0)) << (8 * byte);
+                    word.values.iter_mut().for_each(|to| *to |= value);
+                }
+                cell => {
+                    let (values, known) = &self.cells[cell as usize - 1];
+                    word.values.iter_mut().zip(values).for_each(|(to, value)| *to |= u32::from(*value) << (8 * byte));
+                    word.known &= known;
+                }
+            }
+        }
+        Ok(word)
+    }
+
+    fn new_bytes(&self, at: usize, width: u32) -> usize {
+        (0..width as usize).filter(|byte| self.place[at + byte] == 0).count()
+    }
+
+    fn store(&mut self, at: usize, width: u32, word: &Lanes) {
+        for byte in 0..width as usize {
+            if self.place[at + byte] == 0 {
+                self.cells.push(([0; LANES], true));
+                self.addresses.push(at + byte);
+                self.place[at + byte] = self.cells.len() as u32;
+            }
+            let cell = self.place[at + byte] as usize - 1;
+            self.cells[cell] = (std::array::from_fn(|lane| (word.values[lane] >> (8 * byte)) as u8), word.known);
+        }
+    }
+
+    fn answer(&mut self, case: &Case, rows: usize, entries: usize) -> Result<Accepted, Refusal> {
+        start_test(&case.image, [case.entry, case.event_count, case.events]).map_err(plain)?;
+        if rows < 4 {
+            return Err((13, 0));
+        }
+        self.store((STOP - BASE) as usize, 4, &Lanes::constant(STOP_WORD));
+        let mut x = [Lanes { values: [0; LANES], known: false }; 32];
+        x[0] = Lanes::constant(0);
+        x[1] = Lanes::constant(STOP);
+        x[2] = Lanes::constant(0x801f_fff0);
+        x[10] = Lanes { values: std::array::from_fn(|lane| 6 + lane as u32), known: true };
+        let mut pc = case.entry;
+        while pc != STOP {
+            pc = self.step(case, pc, &mut x, rows, entries)?;
+        }
+        self.finish(case, &x[10])
+    }
+
+    fn fetch(&self, case: &Case, pc: u32) -> Result<(u32, u32), Refusal> {
+        let low = self.load(&case.image, pc, 2)?.uniform(1)?;
+        match length(low) {
+            2 => Ok((expand(low).map_err(plain)?, 2)),
+            bytes => Ok((self.load(&case.image, pc, 4)?.uniform(1)?, bytes)),
+        }
+    }
+
+    fn step(&mut self, case: &Case, pc: u32, x: &mut [Lanes; 32], rows: usize, entries: usize) -> Result<u32, Refusal> {
+        if self.trace.len() as u32 >= MAX_STEPS {
+            return Err((3, 0));
+        }
+        let (word, bytes) = self.fetch(case, pc)?;
+        let mut next = pc.wrapping_add(bytes);
+        let mut set = (0, Lanes::constant(0));
+        let mut put = None;
+        match action(word, pc).map_err(plain)? {
+            Action::Nothing => {}
+            Action::Set { rd, value } => set = (rd, Lanes::constant(value)),
+            Action::Jump { rd, target } => {
+                set = (rd, Lanes::constant(next));
+                next = target;
+            }
+            Action::JumpTo { rd, rs1, offset } => {
+                let target = x[rs1].map(|base| base.wrapping_add(offset) & !1).uniform(2)?;
+                if target == 0 {
+                    return Err((10, 0));
+                }
+                set = (rd, Lanes::constant(next));
+                next = target;
+            }
+            Action::Branch { test, rs1, rs2, target } => {
+                if x[rs1].zip(&x[rs2], test).uniform(5)? != 0 {
+                    next = target;
+                }
+            }
+            Action::Load { rd, rs1, offset, width, signed } => {
+                let address = x[rs1].map(|base| base.wrapping_add(offset)).uniform(3)?;
+                let loaded = self.load(&case.image, address, width)?;
+                set = (rd, loaded.map(|value| extended(value, width, signed)));
+            }
+            Action::Store { rs1, rs2, offset, width } => {
+                let address = x[rs1].map(|base| base.wrapping_add(offset)).uniform(4)?;
+                let at = in_range(address, width).map_err(plain)?;
+                if at < case.image.len() {
+                    return Err((11, 0));
+                }
+                if self.cells.len() + self.new_bytes(at, width) > rows {
+                    return Err((13, 0));
+                }
+                put = Some((address, at, width, rs2));
+            }
+            Action::Immediate { function, rd, rs1, value } => set = (rd, x[rs1].map(|left| function(left, value))),
+            Action::Registers { function, rd, rs1, rs2 } => set = (rd, x[rs1].zip(&x[rs2], function)),
+        }
+        if self.trace.len() >= entries {
+            return Err((14, 0));
+        }
+        if let Some((address, at, width, rs2)) = put {
+            self.store(at, width, &x[rs2]);
+            if width == 4 && address == case.event_count {
+                self.locations.push(pc);
+            }
+        }
+        if set.0 != 0 {
+            x[set.0] = set.1;
+        }
+        self.trace.push([pc, word, bytes, next]);
+        Ok(next)
+    }
+
+    fn finish(&mut self, case: &Case, x10: &Lanes) -> Result<Accepted, Refusal> {
+        let return_value = x10.uniform(6)?;
+        let count = self.load(&case.image, case.event_count, 4)?.uniform(7)? as usize;
+        if count > 32 || count != self.locations.len() {
+            return Err((12, 0));
+        }
+        let mut events = Vec::new();
+        for index in 0..count {
+            let at = case.events + 12 * index as u32;
+            let mut event = [0, 0, 0, self.locations[index]];
+            for part in 0..3 {
+                event[part] = self.load(&case.image, at + 4 * part as u32, 4)?.uniform(8 + part as u8)?;
+            }
+            events.push(event);
+        }
+        Ok(Accepted {
+            return_value,
+            lane_operations: LANES as u64 * self.trace.len() as u64,
+            written: self.cells.len() as u32,
+            events,
+            trace: self.trace.clone(),
+        })
+    }
+}

@@ -1,0 +1,96 @@
+//! The Rust's answer, its texts mapped to document 01's numbers and roles.
+
+use crate::answer::{Accepted, Case};
+use crate::riscv32imc::Rv32SymbolLayout;
+use crate::riscv32imc_predicate::execute_invalid_channel_predicate;
+
+/// The result, or number and role; and how many words were decoded.
+pub struct Original {
+    pub result: Result<Accepted, (u8, u8)>,
+    pub decoded: u32,
+}
+
+const OWN: &str = "finite-domain predicate transducer: ";
+
+/// Texts by the number they stand for. Those of role 5 come first, since they end as others do.
+const TEXTS: [(&str, u8, u8); 12] = [
+    ("branch operand contains an unknown lane", 6, 5),
+    ("branch direction diverges across predicate", 7, 5),
+    ("image size is outside policy", 1, 0),
+    ("symbol is outside memory policy", 2, 0),
+    ("symbolic transition bound exceeded", 3, 0),
+    ("address below image: 0x", 4, 0),
+    ("memory access outside policy: 0x", 5, 0),
+    ("decode at 0x", 9, 0),
+    ("unsupported instruction at 0x", 9, 0),
+    ("zero indirect target", 10, 0),
+    ("self-modifying symbolic code is unsupported", 11, 0),
+    ("event count is outside policy or inconsistent", 12, 0),
+];
+
+/// What is tested, by role: each followed by one of the two endings.
+const ROLES: [(&str, u8); 9] = [
+    ("instruction fetch", 1),
+    ("indirect target", 2),
+    ("load address", 3),
+    ("store address", 4),
+    ("return value", 6),
+    ("event count", 7),
+    ("event operation", 8),
+    ("event offset", 9),
+    ("event value", 10),
+];
+
+/// What `decompress` says; these have no prefix of the run's own.
+const HALFWORD: [&str; 5] = [
+    "reserved ",
+    "RV64 compressed shift in RV32 image",
+    "unsupported compressed arithmetic instruction",
+    "reserved compressed jump or move",
+    "unsupported compressed instruction 0x",
+];
+
+pub fn number_of(text: &str) -> (u8, u8) {
+    let Some(own) = text.strip_prefix(OWN) else {
+        assert!(HALFWORD.iter().any(|start| text.starts_with(start)), "no number for the Rust's text {text:?}");
+        return (8, 0);
+    };
+    if let Some((_, number, role)) = TEXTS.iter().find(|(start, ..)| own.starts_with(start)) {
+        return (*number, *role);
+    }
+    let role = ROLES.iter().find_map(|(start, role)| Some((own.strip_prefix(start)?, *role)));
+    match role {
+        Some((" contains an unknown lane", role)) => (6, role),
+        Some((" is not uniform across predicate", role)) => (7, role),
+        _ => panic!("no number for the Rust's text {text:?}"),
+    }
+}
+
+pub fn run(case: &Case) -> Original {
+    let symbols = Rv32SymbolLayout { entry: case.entry, event_count: case.event_count, events: case.events };
+    riscv_decode::calls();
+    let result = execute_invalid_channel_predicate(&case.image, symbols);
+    let decoded = riscv_decode::calls() as u32;
+    let result = result.map_err(|error| number_of(&error.0)).map(|found| {
+        assert!(found.first_input == 6 && found.lane_count == 250);
+        assert!(found.symbolic_transitions == found.control_trace.len() as u64);
+        assert!(found.events.len() == found.event_program_locations.len());
+        Accepted {
+            return_value: found.return_value,
+            lane_operations: found.lane_value_operations,
+            written: found.sparse_memory_bytes,
+            events: found
+                .events
+                .iter()
+                .zip(&found.event_program_locations)
+                .map(|(event, location)| [event.operation, event.offset, event.value, *location])
+                .collect(),
+            trace: found
+                .control_trace
+                .iter()
+                .map(|step| [step.program_counter, step.instruction_word, step.instruction_bytes.into(), step.next_program_counter])
+                .collect(),
+        }
+    });
+    Original { result, decoded }
+}
