@@ -1,5 +1,6 @@
 -- No word matches two rows of a table that passes the test of all pairs; the standing table passes. Assumes nothing.
-use mathlib.Core.Path.{_≡_, refl, sym, ap, ap₂, _∙_}
+use mathlib.Core.Bool.{true}
+use mathlib.Core.Path.{_≡_, refl, sym, ap, ap₂, subst, _∙_}
 use mathlib.Core.List.{List, [], _∷_}
 use Prim.Native.Nat.{ℕ, zero, suc, _+_, _*_, _/_, _%_, _<_, min}
 use native.Mathlib.Nat.{le-of-suc-le-suc, not-suc-le-zero}
@@ -7,14 +8,13 @@ use native.Mathlib.Omega.{arith}
 use borrow.Author.Tests.{eq-eqb, ne-eqb}
 use lib.Arith.{bin-ind, digits-mod}
 use lib.Bits.{bitAnd, and-step, and-comm, and-shr}
-use lib.Dec.{T, eqb, eqb→eq, T-not}
+use lib.Dec.{T, eqb, ltb, eqb→eq, ltb→lt, T-not}
 use lib.Ieee.Fits.{and-l, and-r}
 use lib.ListN.{length, getD}
 use mir.Facts.{yes-eqb}
 use Rattle.riscv_decode.specs.declared.Row.{Row}
 use Rattle.riscv_decode.specs.Listing.{listing, fixed}
-use Rattle.riscv_decode.specs.Rows.{rowMask, rowMatch, rowNumber, matches, findRow, apart, apartFrom, allApart, maskOf, matchOf, rowsFrom, standing}
-use Rattle.riscv_decode.proofs.Scan.{no-row}
+use Rattle.riscv_decode.specs.Rows.{rowMask, rowMatch, rowNumber, noRow, matches, findRow, apart, apartFrom, allApart, maskOf, matchOf, rowsFrom, standing, Stands}
 
 and-odd : (a b : ℕ) → bitAnd a b % 2 ≡ min (a % 2) (b % 2)
 and-odd a b = ap (λ (x : ℕ). x % 2) (and-step a b) ∙ digits-mod (bitAnd (a / 2) (b / 2)) (omega arith)
@@ -44,30 +44,30 @@ not-both r s w t p q =
     ∙ ap (bitAnd w) (and-comm (rowMask r) (rowMask s))
     ∙ sym (masked w (rowMask s) (rowMask r) (eqb→eq (bitAnd w (rowMask s)) (rowMatch s) q))))
 
-from : (r : Row) (rs : List Row) → T (apartFrom r rs) → (k : ℕ) → k < length rs → T (apart r (getD rs k no-row))
+from : (r : Row) (rs : List Row) → T (apartFrom r rs) → (k : ℕ) → k < length rs → T (apart r (getD rs k noRow))
 unfolding apartFrom
 from r [] t k h = absurd (not-suc-le-zero h)
 from r (s ∷ rs) t zero h = and-l (apart r s) (apartFrom r rs) t
 from r (s ∷ rs) t (suc k) h = from r rs (and-r (apart r s) (apartFrom r rs) t) k (le-of-suc-le-suc h)
 
 -- no word matches two rows
-pub one-row : (t : List Row) → T (allApart t) → (i j w : ℕ) → i < j → j < length t → T (matches (getD t i no-row) w) → T (matches (getD t j no-row) w) → ⊥
+pub one-row : (t : List Row) → T (allApart t) → (i j w : ℕ) → i < j → j < length t → T (matches (getD t i noRow) w) → T (matches (getD t j noRow) w) → ⊥
 unfolding allApart
 one-row [] t i j w l h p q = absurd (not-suc-le-zero h)
 one-row (r ∷ rs) t i zero w l h p q = absurd (not-suc-le-zero l)
 one-row (r ∷ rs) t zero (suc j) w l h p q =
-    not-both r (getD rs j no-row) w (from r rs (and-l (apartFrom r rs) (allApart rs) t) j (le-of-suc-le-suc h)) p q
+    not-both r (getD rs j noRow) w (from r rs (and-l (apartFrom r rs) (allApart rs) t) j (le-of-suc-le-suc h)) p q
 one-row (r ∷ rs) t (suc i) (suc j) w l h p q =
     one-row rs (and-r (apartFrom r rs) (allApart rs) t) i j w (le-of-suc-le-suc l) (le-of-suc-le-suc h) p q
 
 -- so a word that matches a row is found by that row's number, wherever the row stands
-pub found : (t : List Row) → T (allApart t) → (i w : ℕ) → i < length t → T (matches (getD t i no-row) w) → findRow t w ≡ rowNumber (getD t i no-row)
+pub found : (t : List Row) → T (allApart t) → (i w : ℕ) → i < length t → T (matches (getD t i noRow) w) → findRow t w ≡ rowNumber (getD t i noRow)
 unfolding findRow allApart
 found [] t i w h p = absurd (not-suc-le-zero h)
 found (r ∷ rs) t zero w h p = rw (eq-eqb _ _ (eqb→eq (bitAnd w (rowMask r)) (rowMatch r) p))
 found (r ∷ rs) t (suc i) w h p =
     let n : bitAnd w (rowMask r) ≡ rowMatch r → ⊥ =
-    λ e. not-both r (getD rs i no-row) w (from r rs (and-l (apartFrom r rs) (allApart rs) t) i (le-of-suc-le-suc h)) (yes-eqb e) p in
+    λ e. not-both r (getD rs i noRow) w (from r rs (and-l (apartFrom r rs) (allApart rs) t) i (le-of-suc-le-suc h)) (yes-eqb e) p in
     rw (ne-eqb _ _ n) (found rs (and-r (apartFrom r rs) (allApart rs) t) i w (le-of-suc-le-suc h) p)
 
 -- a word that matches a row apart from each of a table's matches none of them
@@ -82,3 +82,14 @@ beside r (s ∷ rs) w t p =
 pub standing-apart : T (allApart standing)
 unfolding allApart apartFrom standing rowsFrom listing fixed maskOf matchOf
 standing-apart = tt
+
+-- row i stands
+pub stands : (i : ℕ) → T (ltb i 44) → Stands (getD standing i noRow)
+unfolding standing rowsFrom listing
+stands i t = (i, ltb→lt i 44 t, refl)
+
+-- a word that matches a row that stands is found by that row's number
+pub by-row : (r : Row) (w : ℕ) → Stands r → matches r w ≡ true → rowNumber r ≡ findRow standing w
+by-row r w s e =
+    let q : T (matches (getD standing (s .0) noRow) w) = subst T (sym (ap (λ (x : Row). matches x w) (s .2) ∙ e)) tt in
+    ap rowNumber (sym (s .2)) ∙ sym (found standing standing-apart (s .0) w (s .1) q)

@@ -11,7 +11,7 @@ use lib.Ieee.Fits.{and-l, and-r}
 use lib.ListN.{length, getD, length-append}
 use lib.Seq.{getD-append-seam}
 use Rattle.riscv_decode.specs.Listing.{Line, NoOperands, Fixed, Opcode, listing, operation, fixed, has, refused}
-use Rattle.riscv_decode.specs.Rows.{rowNumber, matches, findRow, apartFrom, maskOf, matchOf, rowsFrom, standing}
+use Rattle.riscv_decode.specs.Rows.{rowNumber, noRow, matches, findRow, apartFrom, maskOf, matchOf, rowsFrom, standing}
 use Rattle.riscv_decode.specs.Decode.{operationOf, decodeWith, decodeOf, decodeListed}
 use Rattle.riscv_decode.specs.Operations.{numberOf}
 use Rattle.riscv_decode.specs.declared.Row.{Row}
@@ -19,7 +19,6 @@ use Rattle.riscv_decode.specs.declared.Operation.{Operation}
 use Rattle.riscv_decode.specs.declared.Operation.the-variants.{Fence}
 use Rattle.riscv_decode.specs.declared.Decoded.{Decoded}
 use Rattle.riscv_decode.specs.declared.Decoded.the-variants.{Known, Refused}
-use Rattle.riscv_decode.proofs.Scan.{no-row}
 use Rattle.riscv_decode.proofs.Apart.{found, beside, standing-apart}
 use Rattle.riscv_decode.proofs.Fields.{fits, fields}
 
@@ -55,7 +54,7 @@ abbrev pub no-line : Line
 no-line = NoOperands 0 0 Fence
 
 -- the row of line i: its number, and a word with the line's fields matches it
-row-of : (n : ℕ) (ls : List Line) (i w : ℕ) → T (allFit ls) → i < length ls → T (has (fixed (getD ls i no-line)) w) → T (matches (getD (rowsFrom n ls) i no-row) w) × (rowNumber (getD (rowsFrom n ls) i no-row) ≡ n + i)
+row-of : (n : ℕ) (ls : List Line) (i w : ℕ) → T (allFit ls) → i < length ls → T (has (fixed (getD ls i no-line)) w) → T (matches (getD (rowsFrom n ls) i noRow) w) × (rowNumber (getD (rowsFrom n ls) i noRow) ≡ n + i)
 unfolding rowsFrom allFit
 row-of n [] i w t h p = absurd (not-suc-le-zero h)
 row-of n (l ∷ ls) zero w t h p =

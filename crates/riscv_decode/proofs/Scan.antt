@@ -7,20 +7,16 @@ use native.Mathlib.Numerals.{add-one}
 use lib.ListN.{length, getD, drop, drop-of-length-le}
 use lib.Seq.{drop-cons}
 use Rattle.riscv_decode.specs.declared.Row.{Row}
-use Rattle.riscv_decode.specs.Rows.{rowNumber, matches, findRow}
-
--- what stands past the end
-abbrev pub no-row : Row
-no-row = record { 0 = 0; 1 = 0; 2 = 0 }
+use Rattle.riscv_decode.specs.Rows.{rowNumber, noRow, matches, findRow}
 
 module _ (rows : List Row) (w i : ℕ) where
-  pub hit : i < length rows → matches (getD rows i no-row) w ≡ true → rowNumber (getD rows i no-row) ≡ findRow (drop i rows) w
+  pub hit : i < length rows → matches (getD rows i noRow) w ≡ true → rowNumber (getD rows i noRow) ≡ findRow (drop i rows) w
   unfolding findRow
-  hit h e = rw (drop-cons rows i no-row h, e)
+  hit h e = rw (drop-cons rows i noRow h, e)
 
-  pub miss : i < length rows → matches (getD rows i no-row) w ≡ false → findRow (drop i rows) w ≡ findRow (drop (i + 1) rows) w
+  pub miss : i < length rows → matches (getD rows i noRow) w ≡ false → findRow (drop i rows) w ≡ findRow (drop (i + 1) rows) w
   unfolding findRow
-  miss h e = rw (add-one, drop-cons rows i no-row h, e)
+  miss h e = rw (add-one, drop-cons rows i noRow h, e)
 
   pub done : length rows ≤ i → 0 ≡ findRow (drop i rows) w
   unfolding findRow

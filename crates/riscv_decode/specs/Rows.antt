@@ -1,9 +1,11 @@
 -- Tables of mask and match rows (document 01, "Halfword and word"), over any table.
 use mathlib.Core.Bool.{Bool, true, cond, not, _&&_}
 use mathlib.Core.List.{List, [], _∷_}
-use Prim.Native.Nat.{ℕ, suc, _+_, _*_, _^_}
+use mathlib.Core.Path.{_≡_}
+use Prim.Native.Nat.{ℕ, suc, _+_, _*_, _^_, _<_}
 use lib.Bits.{bitAnd}
 use lib.Dec.{eqb}
+use lib.ListN.{length, getD}
 use Rattle.riscv_decode.specs.Listing.{Line, Fixed, Opcode, Funct3, Funct7, fixed, listing}
 use Rattle.riscv_decode.specs.declared.Row.{Row}
 
@@ -16,6 +18,10 @@ rowMatch r = r .1
 
 abbrev pub rowNumber : Row → ℕ
 rowNumber r = r .2
+
+-- what stands past a table's end
+abbrev pub noRow : Row
+noRow = record { 0 = 0; 1 = 0; 2 = 0 }
 
 -- the word agrees with the row's match in the bits of its mask
 abbrev pub matches : Row → ℕ → Bool
@@ -61,3 +67,7 @@ rowsFrom n (l ∷ ls) =
 -- the standing table: forty-four rows, numbered 1 to 44
 unfoldable pub standing : List Row
 standing = rowsFrom 1 listing
+
+-- the row is one of the standing table's
+abbrev pub Stands : Row → Type 0
+Stands r = (i : ℕ) × (i < length standing) × (getD standing i noRow ≡ r)

@@ -1,6 +1,6 @@
 // The 32-bit words of the instruction set: the operations, the table that tells them apart, and the decoder.
 ghost use mathlib.Core.Path.{_≡_};
-ghost use Rattle.riscv_decode.specs.Decode.{decodeWith, decodeOf};
+ghost use Rattle.riscv_decode.specs.Decode.{operationOf, decodeWith, decodeOf};
 
 mod operands;
 pub mod operations;
@@ -9,7 +9,7 @@ pub mod rows;
 use operands::operation_of;
 use rows::Table;
 use rows::find_row;
-use rows::standing_rows;
+use rows::find_standing_row;
 
 // Operands, a struct for each of the manual's formats; immediates are sign-extended to 32 bits.
 pub struct UType {
@@ -116,11 +116,10 @@ pub struct Fetched {
 // A row of a decoding table: mask, match and operation number.
 pub struct Row(pub u32, pub u32, pub u32);
 
-// The operation of a word by a table; a word that matches no row is refused.
-pub fn decode_with(rows: Table, word: u32) -> Decoded
-    ensures { λ r. ⌜ r ≡ decodeWith rows word ⌝ }
+// The operation of a number, with the operands that the word has in its format; 0 and what is above 44 have none.
+fn decode_as(number: u32, word: u32) -> Decoded
+    ensures { λ r. ⌜ r ≡ operationOf number word ⌝ }
 {
-    let number = find_row(rows, word);
     if number == 0 {
         return Decoded::Refused;
     }
@@ -130,9 +129,16 @@ pub fn decode_with(rows: Table, word: u32) -> Decoded
     Decoded::Known(operation_of(number, word))
 }
 
+// The operation of a word by a table; a word that matches no row is refused.
+pub fn decode_with(rows: Table, word: u32) -> Decoded
+    ensures { λ r. ⌜ r ≡ decodeWith rows word ⌝ }
+{
+    decode_as(find_row(rows, word), word)
+}
+
 // The operation of a word by the standing table.
 pub fn decode(word: u32) -> Decoded
     ensures { λ r. ⌜ r ≡ decodeOf word ⌝ }
 {
-    decode_with(standing_rows(), word)
+    decode_as(find_standing_row(word), word)
 }
