@@ -1,7 +1,7 @@
 -- The scan that ends at the first value unlike v, over any number n of values. Assumes nothing.
 use mathlib.Core.Path.{_≡_, refl, _∙_}
 use mathlib.Core.Bool.{true, false}
-use mathlib.Core.List.{List}
+use mathlib.Core.List.{List, [], _∷_}
 use Prim.Native.Nat.{ℕ, _+_, _≤_, _<_}
 use native.Mathlib.Numerals.{add-one}
 use native.Mathlib.Omega.{arith}
@@ -37,3 +37,9 @@ module _ {n : ℕ} {l : List ℕ} {v k : ℕ} (s : Scanned n l v k) where
 -- lane 0 is like itself
 pub start : (l : List ℕ) {n : ℕ} → length l ≡ n → 0 < n → Scanned n l (getD l 0 0) 1
 start l e h = step (record { long = e; within = omega arith; rest = refl }) h refl
+
+-- without lanes any value is like all
+pub no-lanes : (l : List ℕ) → length l ≡ 0 → (getD l 0 0 ≡ 0) × (every (getD l 0 0) l ≡ true)
+unfolding every
+no-lanes [] h = (refl, refl)
+no-lanes (x ∷ l) h = absurd (omega arith)

@@ -34,6 +34,13 @@ module _ {g : ℕ → ℕ} {n : ℕ} {out : List ℕ} {k : ℕ} (t : Tab g n out
       ext-getD 0 out l (t .long ∙ sym e)
       (λ i hi. t .done i (omega (arith, t .long)) ∙ sym (f i (omega (arith, t .long))))
 
+-- a loop that fills an array in the place of another's elements: from k on these still stand
+abbrev pub Still : List ℕ → List ℕ → ℕ → Type 0
+Still l out k = (i : ℕ) → k ≤ i → getD out i 0 ≡ getD l i 0
+
+pub still-step : (l out : List ℕ) {k : ℕ} (v : ℕ) → Still l out k → Still l (set out k v) (k + 1)
+still-step l out {k} v h i b = getD-set-other out k i v 0 (λ q. omega arith) ∙ h i (omega arith)
+
 -- the lists that such a loop makes, by their elements
 getD-map : (f : ℕ → ℕ) (l : List ℕ) (i : ℕ) → i < length l → getD (map f l) i 0 ≡ f (getD l i 0)
 getD-map f [] i h = omega arith

@@ -1,10 +1,12 @@
 // Lane words: 250 values of 32 bits, one for each input, and whether they are known.
 ghost use mathlib.Core.Path.{_≡_};
 ghost use mathlib.Core.Bool.{_&&_};
+ghost use lib.ListN.{length};
 ghost use Rattle.riscv32imc.specs.Arithmetic.{add, sub, sll, srl, sra, slt, sltu, and, or, xor, mul, div, divu, rem, remu, beq, bne, bge, bgeu, target};
 ghost use Rattle.riscv32imc.specs.Bits.{signExtend, byteOf, join};
 ghost use Rattle.riscv32imc.specs.Value.{valueOf};
-ghost use Rattle.lane_word.specs.Word.{firstInput, lanes, unknown, constant, domain, inputs, unary, binary, uniformOf};
+ghost use Rattle.lane_word.specs.Word.{firstInput, lanes, unknown, constant, domain, inputs, zip, unary, binary, uniformOf};
+ghost use Rattle.lane_word.specs.Told.{wordOf, toldBy, isValue};
 use riscv32imc::arithmetic::Binary;
 use riscv32imc::arithmetic::value;
 
@@ -25,6 +27,109 @@ fn both(a: bool, b: bool) -> bool
     ensures { λ r. ⌜ r ≡ (a && b) ⌝ }
 {
     a && b
+}
+
+// An operation of the two values of each lane, in the place of the right ones.
+fn zip_values(operation: Binary, left: &[u32], out: &mut [u32])
+    requires { ⌜ (length (now left) ≡ lanes) × (length (now out) ≡ lanes) ⌝ }
+    ensures { λ r. ⌜ now (out .exit) ≡ zip (valueOf operation) (now (left .entry)) (now (out .entry)) ⌝ }
+{
+    let mut k: usize = 0;
+    while k < LaneWord::LANES {
+        out[k] = value(operation, left[k], out[k]);
+        k += 1;
+    }
+}
+
+// The operation is chosen once for all lanes, so that each loop knows its own.
+fn operate(operation: Binary, left: &[u32], out: &mut [u32])
+    requires { ⌜ (length (now left) ≡ lanes) × (length (now out) ≡ lanes) ⌝ }
+    ensures { λ r. ⌜ now (out .exit) ≡ zip (valueOf operation) (now (left .entry)) (now (out .entry)) ⌝ }
+{
+    match operation {
+        Binary::Add => zip_values(Binary::Add, left, out),
+        Binary::Sub => zip_values(Binary::Sub, left, out),
+        Binary::Sll => zip_values(Binary::Sll, left, out),
+        Binary::Slt => zip_values(Binary::Slt, left, out),
+        Binary::Sltu => zip_values(Binary::Sltu, left, out),
+        Binary::Xor => zip_values(Binary::Xor, left, out),
+        Binary::Srl => zip_values(Binary::Srl, left, out),
+        Binary::Sra => zip_values(Binary::Sra, left, out),
+        Binary::Or => zip_values(Binary::Or, left, out),
+        Binary::And => zip_values(Binary::And, left, out),
+        Binary::Mul => zip_values(Binary::Mul, left, out),
+        Binary::Div => zip_values(Binary::Div, left, out),
+        Binary::Divu => zip_values(Binary::Divu, left, out),
+        Binary::Rem => zip_values(Binary::Rem, left, out),
+        Binary::Remu => zip_values(Binary::Remu, left, out),
+        Binary::Eq => zip_values(Binary::Eq, left, out),
+        Binary::Ne => zip_values(Binary::Ne, left, out),
+        Binary::Ge => zip_values(Binary::Ge, left, out),
+        Binary::Geu => zip_values(Binary::Geu, left, out),
+        Binary::Join => zip_values(Binary::Join, left, out),
+        Binary::Target => zip_values(Binary::Target, left, out),
+        Binary::SignExtend => zip_values(Binary::SignExtend, left, out),
+        Binary::Byte => zip_values(Binary::Byte, left, out),
+    }
+}
+
+// The value that all lanes share: unknown is tested first, then the values, up to the first unlike lane 0's.
+pub fn tell(known: bool, values: &[u32]) -> Uniform
+    ensures { λ r. ⌜ r ≡ uniformOf (record { values = now (values .entry); known = known }) ⌝ }
+{
+    if !known {
+        return Uniform::Unknown;
+    }
+    if values.len() == 0 {
+        return Uniform::Value(0);
+    }
+    let first = values[0];
+    let mut k: usize = 1;
+    loop {
+        if values.len() <= k {
+            break Uniform::Value(first);
+        }
+        if values[k] != first {
+            break Uniform::Uneven;
+        }
+        k += 1;
+    }
+}
+
+// The word that is told: by one value for all lanes, else by its lanes.
+pub fn lanes_of(told: Uniform, word: LaneWord) -> LaneWord
+    ensures { λ r. ⌜ r ≡ wordOf told word ⌝ }
+{
+    match told {
+        Uniform::Value(value) => LaneWord::constant(value),
+        Uniform::Unknown => word,
+        Uniform::Uneven => word,
+    }
+}
+
+// An operation of two told values; of other words only the lanes tell.
+pub fn told_by(operation: Binary, left: Uniform, right: Uniform) -> Uniform
+    ensures { λ r. ⌜ r ≡ toldBy (valueOf operation) left right ⌝ }
+{
+    match left {
+        Uniform::Unknown => Uniform::Uneven,
+        Uniform::Uneven => Uniform::Uneven,
+        Uniform::Value(a) => match right {
+            Uniform::Unknown => Uniform::Uneven,
+            Uniform::Uneven => Uniform::Uneven,
+            Uniform::Value(b) => Uniform::Value(value(operation, a, b)),
+        },
+    }
+}
+
+pub fn is_value(told: Uniform) -> bool
+    ensures { λ r. ⌜ r ≡ isValue told ⌝ }
+{
+    match told {
+        Uniform::Value(_) => true,
+        Uniform::Unknown => false,
+        Uniform::Uneven => false,
+    }
 }
 
 impl LaneWord {
@@ -90,13 +195,8 @@ impl LaneWord {
         ensures { λ r. ⌜ r ≡ binary (valueOf operation) self right ⌝ }
     {
         let left = self.values;
-        let other = right.values;
-        let mut out = [0u32; LaneWord::LANES];
-        let mut k: usize = 0;
-        while k < LaneWord::LANES {
-            out[k] = value(operation, left[k], other[k]);
-            k += 1;
-        }
+        let mut out = right.values;
+        zip_values(operation, &left, &mut out);
         LaneWord {
             values: out,
             known: both(self.known, right.known),
@@ -253,55 +353,24 @@ impl LaneWord {
         self.zip(high, Binary::Join)
     }
 
-    // The operation is chosen once for all lanes, so that each loop knows its own.
+    // The method of any operation.
     pub fn map_binary(self, right: LaneWord, operation: Binary) -> LaneWord
         ensures { λ r. ⌜ r ≡ binary (valueOf operation) self right ⌝ }
     {
-        match operation {
-            Binary::Add => self.add(right),
-            Binary::Sub => self.sub(right),
-            Binary::Sll => self.sll(right),
-            Binary::Slt => self.slt(right),
-            Binary::Sltu => self.sltu(right),
-            Binary::Xor => self.xor(right),
-            Binary::Srl => self.srl(right),
-            Binary::Sra => self.sra(right),
-            Binary::Or => self.or(right),
-            Binary::And => self.and(right),
-            Binary::Mul => self.mul(right),
-            Binary::Div => self.div(right),
-            Binary::Divu => self.divu(right),
-            Binary::Rem => self.rem(right),
-            Binary::Remu => self.remu(right),
-            Binary::Eq => self.eq(right),
-            Binary::Ne => self.ne(right),
-            Binary::Ge => self.ge(right),
-            Binary::Geu => self.geu(right),
-            Binary::Join => self.join(right),
-            Binary::Target => self.zip(right, Binary::Target),
-            Binary::SignExtend => self.zip(right, Binary::SignExtend),
-            Binary::Byte => self.zip(right, Binary::Byte),
+        let left = self.values;
+        let mut out = right.values;
+        operate(operation, &left, &mut out);
+        LaneWord {
+            values: out,
+            known: both(self.known, right.known),
         }
     }
 
-    // The value that all lanes share: unknown is tested first, then the values, up to the first unlike lane 0's.
+    // The value that all lanes share.
     pub fn uniform_known(self) -> Uniform
         ensures { λ r. ⌜ r ≡ uniformOf self ⌝ }
     {
-        if !self.known {
-            return Uniform::Unknown;
-        }
         let values = self.values;
-        let first = values[0];
-        let mut k: usize = 1;
-        loop {
-            if LaneWord::LANES <= k {
-                break Uniform::Value(first);
-            }
-            if values[k] != first {
-                break Uniform::Uneven;
-            }
-            k += 1;
-        }
+        tell(self.known, &values)
     }
 }
