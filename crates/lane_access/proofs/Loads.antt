@@ -7,7 +7,7 @@ use native.Mathlib.Nat.{mod-eq-of-lt, pow-suc}
 use native.Mathlib.Omega.{arith}
 use borrow.Author.Tests.{eq-eqb, ne-eqb, lt-ltb, leb-true}
 use lib.Dec.{ltb, leb}
-use lib.ListN.{length, getD, take, drop, replicate, length-drop}
+use lib.ListN.{length, getD, take, drop, length-drop}
 use lib.Seq.{drop-cons, length-take-le}
 use Rattle.little_endian.specs.Number.{value, AllBytes}
 use Rattle.little_endian.proofs.NumberLaws.{value-below, below-drop, below-take}
@@ -17,60 +17,94 @@ use Rattle.lane_word.specs.declared.LaneWord.{LaneWord}
 use Rattle.lane_word.specs.declared.Uniform.{Uniform}
 use Rattle.lane_word.specs.declared.Uniform.the-variants.{Value, Unknown, Uneven}
 use Rattle.lane_word.specs.Word.{constant, binary, zip, every, inputs, uniformOf}
+use Rattle.lane_word.specs.Told.{toldBy, Tells}
 use Rattle.lane_word.proofs.Tab.{length-inputs}
+use Rattle.lane_word.proofs.Told.{binary-constants, uniform-constant}
 use Rattle.predicate_semantics.specs.Choice.{choose}
 use Rattle.predicate_semantics.specs.Program.{memoryEnd, initial}
 use Rattle.predicate_semantics.specs.Memory.{LaneBytes, read}
 use Rattle.predicate_semantics.specs.Refusal.{Refusal, Tested, passed, refused, refuse, require, found, _>>=_}
 use Rattle.predicate_semantics.specs.Lane.{uniform, inside, agreed, access, accessAgreed, fetchWord, fetch}
 use Rattle.predicate_semantics.specs.Standing.{standingCore}
-use Rattle.lane_memory.specs.Rows.{loadByte}
-use Rattle.lane_memory.proofs.Laws.{load-below}
+use Rattle.lane_memory.specs.Rows.{loadByte, toldByte}
+use Rattle.lane_memory.proofs.Laws.{load-below, told-byte}
 use Rattle.lane_access.specs.Seen.{offsetOf, seen, Lies}
-use Rattle.lane_access.specs.Answers.{decodedAs, expandedAs, fourAs}
-
--- what the code's answer to a uniform test is in the semantics
-abbrev pub uniformAs : ℕ → Uniform → Tested ℕ
-uniformAs role (Value v) = passed v
-uniformAs role Unknown = refuse 6 role
-uniformAs role Uneven = refuse 7 role
+use Rattle.lane_access.specs.declared.Verdict.{Verdict}
+use Rattle.lane_access.specs.declared.Verdict.the-variants as verdict
+use Rattle.lane_access.specs.Answers.{testedAs, loadedAs, decodedAs, expandedAs, fourAs}
 
 tested : (role v : ℕ) (b c : Bool)
     → choose b (λ _. choose c (λ _. passed v) (λ _. refuse 7 role)) (λ _. refuse 6 role)
-    ≡ uniformAs role (cond b (cond c (Value v) Uneven) Unknown)
+    ≡ testedAs role (cond b (cond c (Value v) Uneven) Unknown)
 unfolding choose
 tested role v true true = refl
 tested role v true false = refl
 tested role v false c = refl
 
-pub agreed-is : (role : ℕ) (w : LaneWord) → agreed (inputs 6 250) role w ≡ uniformAs role (uniformOf w)
+pub agreed-is : (role : ℕ) (w : LaneWord) → agreed (inputs 6 250) role w ≡ testedAs role (uniformOf w)
 unfolding agreed uniform uniformOf
 agreed-is role w = tested role (getD (w .values) 0 0) (w .known) (every (getD (w .values) 0 0) (w .values))
 
 -- a constant passes every uniform test
-every-same : (n v : ℕ) → every v (replicate n v) ≡ true
-unfolding every
-every-same zero v = refl
-every-same (suc n) v = rw (eq-eqb v v refl) (every-same n v)
-
 pub agreed-constant : (role v : ℕ) → agreed (inputs 6 250) role (constant 250 v) ≡ passed v
-unfolding agreed uniform choose constant
-agreed-constant role v = rw (every-same 250 v)
-
--- constants joined are a constant
-zip-same : (f : ℕ → ℕ → ℕ) (n x y : ℕ) → zip f (replicate n x) (replicate n y) ≡ replicate n (f x y)
-unfolding zip
-zip-same f zero x y = refl
-zip-same f (suc n) x y = ap (λ (l : List ℕ). f x y ∷ l) (zip-same f n x y)
-
-binary-constant : (f : ℕ → ℕ → ℕ) (n x y : ℕ) → binary f (constant n x) (constant n y) ≡ constant n (f x y)
-unfolding binary constant
-binary-constant f n x y = rw (zip-same f n x y)
+agreed-constant role v = agreed-is role (constant 250 v) ∙ ap (testedAs role) (uniform-constant 250 v (omega arith))
 
 -- a byte of the image
 pub seen-image : (image rows : List ℕ) (a : ℕ) → offsetOf a < length image → seen image rows a ≡ constant 250 (getD image (offsetOf a) 0)
 unfolding seen initial
 seen-image image rows a h = rw (lt-ltb _ _ h)
+
+-- the byte by the code's test
+module _ (image rows : List ℕ) (a : ℕ) {b : Bool} (is : b ≡ ltb (offsetOf a) (length image)) where
+  pub seen-within : b ≡ true → seen image rows a ≡ constant 250 (initial image a)
+  unfolding seen
+  seen-within h = rw (sym is ∙ h)
+
+  pub seen-past : b ≡ false → seen image rows a ≡ loadByte rows a 0
+  unfolding seen
+  seen-past h = rw (sym is ∙ h)
+
+-- ---- a number joined from its highest byte down
+
+-- what the bytes from one on come to
+abbrev pub rest : LaneBytes → ℕ → ℕ → ℕ → LaneWord
+rest memory n a left = read 250 memory (n - left) (a + left)
+
+module _ (memory : LaneBytes) (n a : ℕ) where
+  pub rest-none : rest memory n a n ≡ constant 250 0
+  unfolding read
+  rest-none = let z : n - n ≡ 0 = omega arith in rw z
+
+  pub rest-more : (left : ℕ) → left ≤ n → 0 < left → rest memory n a (left - 1) ≡ binary join (memory (a + (left - 1))) (rest memory n a left)
+  unfolding read
+  rest-more left h k =
+      let e : n - (left - 1) ≡ suc (n - left) = omega arith in
+      let f : suc (a + (left - 1)) ≡ a + left = omega arith in
+      rw (e, f)
+
+  pub rest-all : (left : ℕ) → left ≤ 0 → rest memory n a left ≡ read 250 memory n a
+  rest-all left h =
+      let z : left ≡ 0 = omega arith in
+      let e : n - 0 ≡ n = omega arith in
+      let f : a + 0 ≡ a = omega arith in
+      rw (z, e, f)
+
+-- ---- what one value tells
+
+pub tells-byte : (rows : List ℕ) (a other : ℕ) → Tells (toldByte rows a other) (loadByte rows a other)
+tells-byte rows a other = go (toldByte rows a other) refl
+  where
+    go : (u : Uniform) → toldByte rows a other ≡ u → Tells u (loadByte rows a other)
+    go (Value v) e = told-byte rows a other e
+    go Unknown e = tt
+    go Uneven e = tt
+
+pub tells-by : (f : ℕ → ℕ → ℕ) (u v : Uniform) (x y : LaneWord) → Tells u x → Tells v y → Tells (toldBy f u v) (binary f x y)
+tells-by f (Value a) (Value b) x y p q = rw (p, q) (binary-constants f 250 a b)
+tells-by f (Value a) Unknown x y p q = tt
+tells-by f (Value a) Uneven x y p q = tt
+tells-by f Unknown v x y p q = tt
+tells-by f Uneven v x y p q = tt
 
 -- joining stays within a word where the number has at most four bytes
 small : (n : ℕ) → n ≤ 3 → 256 ^ n ≤ 16777216
@@ -100,7 +134,7 @@ read-image image rows h (suc n) a k l f =
     let j : join (getD image o 0) (value rest) ≡ getD image o 0 + 256 * value rest = join-small _ _ n (h o) b' (omega arith) in
     let ih : read 250 (seen image rows) n (suc a) ≡ constant 250 (value rest)
     = rw e at (read-image image rows h n (suc a) (omega arith) (omega arith) (omega arith)) in
-    rw (seen-image image rows a (omega arith), ih, binary-constant join 250 _ _, j, drop-cons image o 0 (omega arith))
+    rw (seen-image image rows a (omega arith), ih, binary-constants join 250 _ _, j, drop-cons image o 0 (omega arith))
 
 -- a number lies there where as many bytes are left from its offset on
 pub lies-left : (image : List ℕ) (a o v n : ℕ) → n ≤ 4 → o ≡ offsetOf a → o < length image → leb n (length image - o) ≡ true → v ≡ value (take n (drop o image)) → Lies v image a n
@@ -122,6 +156,11 @@ inside-fits a n h = go (leb imageBase a) (leb (a + n) memoryEnd) refl refl h
     go true true p q h = (leb-true _ _ p, leb-true _ _ q)
     go true false p q h = absurd (clash (cc))
     go false c p q h = absurd (clash (cc))
+
+-- the word of a load that passed
+pub accessed-word : (v : Verdict) (x w : LaneWord) → loadedAs v x ≡ passed w → x ≡ w
+accessed-word verdict.Passed x w e = cc
+accessed-word (verdict.Refused r) x w e = absurd (clash (cc))
 
 module _ (memory : LaneBytes) (n a : ℕ) where
   pub access-inside : inside a n ≡ passed tt → access (inputs 6 250) memory n a ≡ passed (read 250 memory n a)

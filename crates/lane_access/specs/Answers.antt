@@ -1,11 +1,14 @@
 -- Document 01's number and role for each refusal of the code, and what the code's answers are in the semantics.
+use mathlib.Core.Path.{_≡_}
 use Prim.Native.Nat.{ℕ}
 use Rattle.riscv_decode.specs.declared.Fetched.{Fetched}
 use Rattle.lane_word.specs.declared.LaneWord.{LaneWord}
-use Rattle.lane_word.specs.Word.{inputs}
-use Rattle.predicate_semantics.specs.Refusal.{Refusal, Tested, passed, refused, _>>=_, found}
-use Rattle.predicate_semantics.specs.Memory.{LaneBytes}
-use Rattle.predicate_semantics.specs.Lane.{accessAgreed}
+use Rattle.lane_word.specs.declared.Uniform.{Uniform}
+use Rattle.lane_word.specs.declared.Uniform.the-variants.{Value, Unknown, Uneven}
+use Rattle.lane_word.specs.Word.{constant, inputs}
+use Rattle.predicate_semantics.specs.Refusal.{Refusal, Tested, passed, refused, refuse, _>>=_, found}
+use Rattle.predicate_semantics.specs.Memory.{LaneBytes, read}
+use Rattle.predicate_semantics.specs.Lane.{inside, accessAgreed}
 use Rattle.predicate_semantics.specs.Standing.{standingCore}
 use Rattle.lane_access.specs.declared.Role.{Role}
 use Rattle.lane_access.specs.declared.Role.the-variants as role
@@ -16,6 +19,8 @@ use Rattle.lane_access.specs.declared.Verdict.the-variants as verdict
 use Rattle.lane_access.specs.declared.Agreed.{Agreed}
 use Rattle.lane_access.specs.declared.Agreed.the-variants as agreed
 use Rattle.lane_access.specs.declared.Accessed.{Accessed}
+use Rattle.lane_access.specs.declared.Loading.{Loading}
+use Rattle.lane_access.specs.declared.Loading.the-variants as loading
 use Rattle.lane_access.specs.declared.Fetching.{Fetching}
 use Rattle.lane_access.specs.declared.Fetching.the-variants as fetching
 
@@ -57,6 +62,12 @@ abbrev pub agreedOf : Agreed → Tested ℕ
 agreedOf (agreed.Value v) = passed v
 agreedOf (agreed.Refused e) = refused (refusalOf e)
 
+-- what a uniform test finds: unknown is 6, unequal 7
+abbrev pub testedAs : ℕ → Uniform → Tested ℕ
+testedAs r (Value v) = passed v
+testedAs r Unknown = refuse 6 r
+testedAs r Uneven = refuse 7 r
+
 -- a load's word stands beside its verdict
 abbrev pub loadedAs : Verdict → LaneWord → Tested LaneWord
 loadedAs verdict.Passed w = passed w
@@ -64,6 +75,12 @@ loadedAs (verdict.Refused e) w = refused (refusalOf e)
 
 abbrev pub accessedOf : Accessed → Tested LaneWord
 accessedOf a = loadedAs (a .verdict) (a .word)
+
+-- a load that has passed its range is one value in every lane, or lanes; else its refusal
+abbrev pub LoadsAs : LaneBytes → ℕ → ℕ → Loading → Type 0
+LoadsAs memory n a (loading.Value v) = (inside a n ≡ passed tt) × (read 250 memory n a ≡ constant 250 v)
+LoadsAs memory n a loading.Lanes = inside a n ≡ passed tt
+LoadsAs memory n a (loading.Refused e) = inside a n ≡ refused (refusalOf e)
 
 abbrev pub fetchingOf : Fetching → Tested Fetched
 fetchingOf (fetching.Got f) = passed f

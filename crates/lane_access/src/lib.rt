@@ -1,17 +1,25 @@
 // Loads and fetches of the lane run: the image, then zeros, under the written bytes.
 ghost use mathlib.Core.Path.{_≡_};
+ghost use mathlib.Core.Bool.{_&&_};
 ghost use Prim.Native.Nat.{ℕ, _+_, _≤_, _^_};
+ghost use lib.Dec.{ltb};
+ghost use lib.ListN.{length};
+ghost use Rattle.riscv32imc.specs.Constants.{imageBase};
 ghost use Rattle.lane_word.specs.Word.{inputs};
+ghost use Rattle.lane_word.specs.Told.{Tells};
+ghost use Rattle.predicate_semantics.specs.Program.{initial};
 ghost use Rattle.predicate_semantics.specs.Memory.{read};
 ghost use Rattle.predicate_semantics.specs.Lane.{agreed, inside, access, accessAgreed, fetch};
 ghost use Rattle.predicate_semantics.specs.Standing.{standingCore};
+ghost use Rattle.lane_memory.specs.Rows.{Joined};
 ghost use Rattle.lane_access.specs.Seen.{offsetOf, seen, FromImage};
-ghost use Rattle.lane_access.specs.Answers.{roleOf, verdictOf, agreedOf, accessedOf, fetchingOf, decodedAs, expandedAs, fourAs};
+ghost use Rattle.lane_access.specs.Answers.{roleOf, verdictOf, agreedOf, testedAs, accessedOf, LoadsAs, fetchingOf, decodedAs, expandedAs, fourAs};
 use lane_word::LaneWord;
 use lane_word::Uniform;
 use riscv_decode::Decoded;
 use riscv_decode::Fetched;
 use riscv32imc::Expanded;
+use riscv32imc::arithmetic::Binary;
 
 // What a word that is not known or not uniform was read for.
 pub enum Role {
@@ -63,6 +71,13 @@ pub struct Accessed {
     pub word: LaneWord,
 }
 
+// A load that one value tells, one that its lanes do, or its refusal.
+pub enum Loading {
+    Value(u32),
+    Lanes,
+    Refused(Rv32Error),
+}
+
 pub enum Fetching {
     Got(Fetched),
     Refused(Rv32Error),
@@ -81,16 +96,22 @@ pub fn range_of(address: u32, width: u32) -> Verdict
     Verdict::Passed
 }
 
-// The lanes' common value, or the refusal in this role.
-pub fn agree(word: LaneWord, role: Role) -> Agreed
-    ensures { λ r. ⌜ agreedOf r ≡ agreed (inputs 6 250) (roleOf role) word ⌝ }
+// What a uniform test found, or the refusal in this role.
+pub fn agreed_in(tested: Uniform, role: Role) -> Agreed
+    ensures { λ r. ⌜ agreedOf r ≡ testedAs (roleOf role) tested ⌝ }
 {
-    let uniform = word.uniform_known();
-    match uniform {
+    match tested {
         Uniform::Value(value) => Agreed::Value(value),
         Uniform::Unknown => Agreed::Refused(Rv32Error::Unknown(role)),
         Uniform::Uneven => Agreed::Refused(Rv32Error::NotUniform(role)),
     }
+}
+
+// The lanes' common value, or the refusal in this role.
+pub fn agree(word: LaneWord, role: Role) -> Agreed
+    ensures { λ r. ⌜ agreedOf r ≡ agreed (inputs 6 250) (roleOf role) word ⌝ }
+{
+    agreed_in(word.uniform_known(), role)
 }
 
 // Where an address lies in the image, if it lies there.
@@ -103,15 +124,35 @@ fn offset_of(address: u32) -> usize
     (address - riscv32imc::RV32_IMAGE_BASE) as usize
 }
 
-// The byte at an address; below the image's end nothing is written, so no row is looked for.
-fn byte_at(image: &[u8], rows: &[u8], address: u32) -> LaneWord
-    ensures { λ r. ⌜ r ≡ seen (now (image .entry)) (now (rows .entry)) address ⌝ }
+// Below the image's end nothing is written, so no row is looked for there.
+fn in_image(image: &[u8], address: u32) -> bool
+    ensures { λ r. ⌜ r ≡ ltb (offsetOf address) (length (now (image .entry))) ⌝ }
 {
-    let offset = offset_of(address);
-    if offset < image.len() {
-        return LaneWord::constant(little_endian::get_u8(image, offset) as u32);
+    offset_of(address) < image.len()
+}
+
+// The image's byte at an address, 0 past its end.
+fn image_byte(image: &[u8], address: u32) -> u32
+    ensures { λ r. ⌜ r ≡ initial (now (image .entry)) address ⌝ }
+{
+    little_endian::get_u8(image, offset_of(address)) as u32
+}
+
+fn both(a: bool, b: bool) -> bool
+    ensures { λ r. ⌜ r ≡ (a && b) ⌝ }
+{
+    a && b
+}
+
+// The byte at an address below the values above it, in their place; whether the byte is known.
+fn join_at(image: &[u8], rows: &[u8], address: u32, values: &mut [u32]) -> bool
+    ensures { λ r. ⌜ Joined (seen (now (image .entry)) (now (rows .entry)) address) (now (values .entry)) r (now (values .exit)) ⌝ }
+{
+    if in_image(image, address) {
+        lane_memory::join_value(image_byte(image, address), values);
+        return true;
     }
-    lane_memory::load_byte(rows, address, 0)
+    lane_memory::join_values(rows, address, 0, values)
 }
 
 // The bytes from an address as one word, joined from the highest down.
@@ -119,13 +160,41 @@ fn join_bytes(image: &[u8], rows: &[u8], address: u32, width: u32) -> LaneWord
     requires { ⌜ address + width ≤ 2 ^ 32 ⌝ }
     ensures { λ r. ⌜ r ≡ read 250 (seen (now (image .entry)) (now (rows .entry))) width address ⌝ }
 {
-    let mut word = LaneWord::constant(0);
+    let mut values = [0u32; 250];
+    let mut known = true;
     let mut left = width;
     while 0 < left {
         left -= 1;
-        word = byte_at(image, rows, address + left).join(word);
+        known = both(join_at(image, rows, address + left, &mut values), known);
     }
-    word
+    LaneWord { values, known }
+}
+
+// What one value tells of the byte at an address.
+fn told_at(image: &[u8], rows: &[u8], address: u32) -> Uniform
+    ensures { λ r. ⌜ Tells r (seen (now (image .entry)) (now (rows .entry)) address) ⌝ }
+{
+    if in_image(image, address) {
+        return Uniform::Value(image_byte(image, address));
+    }
+    lane_memory::told_byte(rows, address, 0)
+}
+
+// What the bytes' values tell, joined as the bytes are; one byte without a value leaves the number to its lanes.
+fn told_join(image: &[u8], rows: &[u8], address: u32, width: u32) -> Uniform
+    requires { ⌜ address + width ≤ 2 ^ 32 ⌝ }
+    ensures { λ r. ⌜ Tells r (read 250 (seen (now (image .entry)) (now (rows .entry))) width address) ⌝ }
+{
+    let mut told = Uniform::Value(0);
+    let mut left = width;
+    while 0 < left {
+        left -= 1;
+        told = lane_word::told_by(Binary::Join, told_at(image, rows, address + left), told);
+        if !lane_word::is_value(told) {
+            return Uniform::Uneven;
+        }
+    }
+    told
 }
 
 // A number that the image holds whole; without it the bytes are joined.
@@ -151,7 +220,34 @@ fn image_number(image: &[u8], address: u32, width: u32) -> ImageNumber
     ImageNumber::Elsewhere
 }
 
-// A load: range, then the bytes.
+// What one value tells of the bytes from an address on.
+fn told_bytes(image: &[u8], rows: &[u8], address: u32, width: u32) -> Uniform
+    requires { ⌜ (imageBase ≤ address) × (address + width ≤ 2 ^ 32) ⌝ }
+    ensures { λ r. ⌜ Tells r (read 250 (seen (now (image .entry)) (now (rows .entry))) width address) ⌝ }
+{
+    let number = image_number(image, address, width);
+    match number {
+        ImageNumber::Number(value) => Uniform::Value(value),
+        ImageNumber::Elsewhere => told_join(image, rows, address, width),
+    }
+}
+
+// A load: range, then what one value tells.
+pub fn load(image: &[u8], rows: &[u8], address: u32, width: u32) -> Loading
+    ensures { λ r. ⌜ LoadsAs (seen (now (image .entry)) (now (rows .entry))) width address r ⌝ }
+{
+    let range = range_of(address, width);
+    if let Verdict::Refused(error) = range {
+        return Loading::Refused(error);
+    }
+    let told = told_bytes(image, rows, address, width);
+    if let Uniform::Value(value) = told {
+        return Loading::Value(value);
+    }
+    Loading::Lanes
+}
+
+// A load lane by lane: range, then the bytes.
 pub fn access(image: &[u8], rows: &[u8], address: u32, width: u32) -> Accessed
     ensures { λ r. ⌜ accessedOf r ≡ access (inputs 6 250) (seen (now (image .entry)) (now (rows .entry))) width address ⌝ }
 {
@@ -162,32 +258,22 @@ pub fn access(image: &[u8], rows: &[u8], address: u32, width: u32) -> Accessed
             word: LaneWord::unknown(),
         };
     }
-    let number = image_number(image, address, width);
-    if let ImageNumber::Number(value) = number {
-        return Accessed {
-            verdict: Verdict::Passed,
-            word: LaneWord::constant(value),
-        };
-    }
     Accessed {
         verdict: Verdict::Passed,
         word: join_bytes(image, rows, address, width),
     }
 }
 
-// A load that has to be uniform; what the image holds is.
+// A load that has to be uniform; what one value tells is.
 pub fn access_agreed(image: &[u8], rows: &[u8], address: u32, width: u32, role: Role) -> Agreed
     ensures { λ r. ⌜ agreedOf r ≡ accessAgreed (inputs 6 250) (roleOf role) (seen (now (image .entry)) (now (rows .entry))) width address ⌝ }
 {
-    let range = range_of(address, width);
-    if let Verdict::Refused(error) = range {
-        return Agreed::Refused(error);
+    let loading = load(image, rows, address, width);
+    match loading {
+        Loading::Value(value) => Agreed::Value(value),
+        Loading::Refused(error) => Agreed::Refused(error),
+        Loading::Lanes => agree(access(image, rows, address, width).word, role),
     }
-    let number = image_number(image, address, width);
-    if let ImageNumber::Number(value) = number {
-        return Agreed::Value(value);
-    }
-    agree(join_bytes(image, rows, address, width), role)
 }
 
 // The operation of a word, with its length.

@@ -1,13 +1,13 @@
 -- Laws of the bytes of a word. Assumes nothing.
-use mathlib.Core.List.{map-map}
+use mathlib.Core.List.{List, _∷_, map, map-map}
 use mathlib.Core.Path.{_≡_, refl, ap, sym, _∙_}
 use Prim.Native.Nat.{ℕ, zero, suc, _+_, _*_, _/_, _%_, _^_, _<_, _≤_}
 use native.Mathlib.Nat.{div-div-eq-div-mul, div-eq-of-lt, pow-succ', pow-le-pow-right}
 use native.Mathlib.Omega.{arith}
-use lib.ListN.{length, length-map}
+use lib.ListN.{length, replicate, length-map}
 use lib.Pow.{pow-add}
 use Rattle.lane_word.specs.declared.LaneWord.{LaneWord}
-use Rattle.lane_word.specs.Word.{unary}
+use Rattle.lane_word.specs.Word.{constant, unary}
 use Rattle.lane_memory.specs.Rows.{lanes, byteValue, byteOf}
 
 -- a word of 32 bits has four bytes
@@ -44,3 +44,12 @@ of-lowest w = λ i. unary (λ v. byte-lowest v i) w
 pub byte-size : (k : ℕ) (w : LaneWord) → length (w .values) ≡ lanes → length (byteOf k w .values) ≡ lanes
 unfolding unary
 byte-size k w size = length-map (w .values) (byteValue k) ∙ size
+
+-- a byte of a constant
+map-replicate : (f : ℕ → ℕ) (n v : ℕ) → map f (replicate n v) ≡ replicate n (f v)
+map-replicate f zero v = refl
+map-replicate f (suc n) v = ap (λ (l : List ℕ). f v ∷ l) (map-replicate f n v)
+
+pub byte-constant : (k v : ℕ) → byteOf k (constant lanes v) ≡ constant lanes (byteValue k v)
+unfolding unary constant
+byte-constant k v = rw (map-replicate (byteValue k) lanes v)

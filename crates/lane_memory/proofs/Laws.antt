@@ -1,29 +1,33 @@
 -- The laws that callers cite: when rows hold a memory, what the functions make of it. Assumes nothing.
-use mathlib.Core.Bool.{Bool, true, false, cond}
+use mathlib.Core.Bool.{Bool, true, false, cond, _&&_}
 use mathlib.Core.List.{List, [], _++_}
 use mathlib.Core.Logic.{_⊎_, inl, inr, ⊎-elim}
 use mathlib.Core.Option.{none, some}
-use mathlib.Core.Path.{_≡_, refl, ap, _∙_}
+use mathlib.Core.Path.{_≡_, refl, ap, sym, _∙_, subst}
 use Prim.Native.Nat.{ℕ, zero, suc, _+_, _*_, _/_, _%_, _^_, _<_, _≤_}
 use native.Mathlib.Nat.{mod-eq-of-lt}
 use native.Mathlib.Omega.{arith}
+use borrow.Author.Tests.{eq-eqb, ne-eqb}
 use lib.Dec.{eqb}
-use lib.ListN.{length, getD, take, drop, replicate, length-append, length-drop, length-replicate, getD-replicate, List·getD-append}
-use lib.Seq.{drop-at}
+use lib.Arith.{lt-of-le-ne}
+use lib.ListN.{length, getD, take, drop, replicate, length-set, length-append, length-drop, length-replicate, getD-replicate, List·getD-append}
+use lib.Seq.{drop-at, drop-set-lt, getD-set-same, getD-set-other}
 use Rattle.little_endian.specs.Number.{value, AllBytes}
 use Rattle.little_endian.proofs.NumberLaws.{below-take, below-drop}
+use Rattle.riscv32imc.specs.Bits.{join}
 use Rattle.lane_word.specs.declared.LaneWord.{LaneWord}
-use Rattle.lane_word.specs.Word.{constant}
+use Rattle.lane_word.specs.declared.Uniform.the-variants.{Value, Uneven}
+use Rattle.lane_word.specs.Word.{constant, binary, zip}
 use Rattle.predicate_semantics.specs.Memory.{Written, byteAt, put, write}
-use Rattle.lane_memory.specs.Rows.{lanes, rowCount, rowAt, rowByte, held, findRow, findIn, byteOf, writeRow, storeAt, storeByte, storeBytes, loadAt, loadByte, newAt, newBytes, cleared}
+use Rattle.lane_memory.specs.Rows.{lanes, rowCount, rowAt, laneByte, rowByte, held, findRow, findIn, byteValue, byteOf, laneRow, valueRow, writeRow, storeAt, storeRow, storeByte, storeRows, storeBytes, storeValues, loadAt, loadByte, joined, Joined, toldAt, toldByte, newAt, newBytes, unmarkRows, unmarked, cleared}
 use Rattle.lane_memory.specs.Holds.{lookup, content, one, Holds}
 use Rattle.lane_memory.specs.declared.Found.{Found}
 use Rattle.lane_memory.specs.declared.Found.the-variants.{At, Free, Full}
-use Rattle.lane_memory.proofs.Search.{clash}
-use Rattle.lane_memory.proofs.Bytes.{byte-size}
+use Rattle.lane_memory.proofs.Search.{clash, same?}
+use Rattle.lane_memory.proofs.Bytes.{byte-size, byte-constant}
 use Rattle.lane_memory.proofs.Memory.{byteOr, byte-lookup, entry, length-put, put-most, write-suc, lookup-write, used-most}
 use Rattle.lane_memory.proofs.Tables.{Has, at-has, free-none, full-used, table-none, put-new, put-old}
-use Rattle.lane_memory.proofs.RowBytes.{row-first, write-long, write-behind, held-written, held-others}
+use Rattle.lane_memory.proofs.RowBytes.{row-first, write-long, write-behind, held-others, Renders, held-written, lane-renders, value-renders}
 
 -- ---- whatever the rows hold: a store keeps the memory's length and the bytes behind its rows
 
@@ -31,20 +35,20 @@ pub record Kept (l l′ : List ℕ) : Type 0 where
   pub long : length l′ ≡ length l
   pub behind : drop (rowCount l * 264) l′ ≡ drop (rowCount l * 264) l
 
-row-kept : (l : List ℕ) (s a : ℕ) (b : LaneWord) → length (b .values) ≡ lanes → s < rowCount l → Kept l (writeRow l s (entry a b))
-row-kept l s a b size h =
+row-kept : (l : List ℕ) (s : ℕ) (row : List ℕ) → length row ≤ 264 → s < rowCount l → Kept l (writeRow l s row)
+row-kept l s row short h =
     record {
-      long = write-long l s (entry a b);
-      behind = write-behind l s (entry a b) size (rowCount l * 264) (omega arith);
+      long = write-long l s row;
+      behind = write-behind l s row short (rowCount l * 264) (omega arith);
     }
 
-byte-kept : (l : List ℕ) (a : ℕ) (b : LaneWord) → length (b .values) ≡ lanes → Kept l (storeByte l a b)
-unfolding storeByte
-byte-kept l a b size = go (findRow l a) refl
+byte-kept : (l : List ℕ) (a : ℕ) (row : List ℕ) → length row ≤ 264 → Kept l (storeRow l a row)
+unfolding storeRow
+byte-kept l a row short = go (findRow l a) refl
   where
-    go : (r : Found) → findRow l a ≡ r → Kept l (storeAt r l (entry a b))
-    go (At s) e = row-kept l s a b size (at-has (held l) a (rowCount l) s e .1)
-    go (Free s) e = row-kept l s a b size (free-none (held l) a (rowCount l) s e .1)
+    go : (r : Found) → findRow l a ≡ r → Kept l (storeAt r l row)
+    go (At s) e = row-kept l s row short (at-has (held l) a (rowCount l) s e .1)
+    go (Free s) e = row-kept l s row short (free-none (held l) a (rowCount l) s e .1)
     go Full e = record { long = refl; behind = refl }
 
 kept-on : {l l′ l″ : List ℕ} → Kept l l′ → Kept l′ l″ → Kept l l″
@@ -52,15 +56,29 @@ kept-on {l} {l′} {l″} p q =
     let e : rowCount l′ ≡ rowCount l = ap (λ (n : ℕ). n / 264) (p .long) in
     record { long = q .long ∙ p .long; behind = rw e at (q .behind) ∙ p .behind }
 
+rows-kept : (l : List ℕ) (width a : ℕ) (row : ℕ → ℕ → List ℕ) → ((k x : ℕ) → length (row k x) ≤ 264) → Kept l (storeRows l width a row)
+unfolding storeRows
+rows-kept l zero a row short = record { long = refl; behind = refl }
+rows-kept l (suc k) a row short =
+    kept-on (rows-kept l k a row short) (byte-kept (storeRows l k a row) ((a + k) % 2 ^ 32) (row k ((a + k) % 2 ^ 32)) (short k ((a + k) % 2 ^ 32)))
+
 pub store-kept : (l : List ℕ) (width a : ℕ) (w : LaneWord) → length (w .values) ≡ lanes → Kept l (storeBytes l width a w)
 unfolding storeBytes
-store-kept l zero a w size = record { long = refl; behind = refl }
-store-kept l (suc k) a w size =
-    kept-on (store-kept l k a w size) (byte-kept (storeBytes l k a w) ((a + k) % 2 ^ 32) (byteOf k w) (byte-size k w size))
+store-kept l width a w size = rows-kept l width a (λ k x. laneRow x (byteOf k w)) (λ k x. lane-renders (byteOf k w) (byte-size k w size) .short x)
+
+pub store-value-kept : (l : List ℕ) (width a v : ℕ) → Kept l (storeValues l width a v)
+unfolding storeValues
+store-value-kept l width a v = rows-kept l width a (λ k x. valueRow x (byteValue k v)) (λ k x. value-renders (byteValue k v) .short x)
 
 -- clearing after a store leaves what clearing before it would
+cleared-kept : {l l′ : List ℕ} → Kept l l′ → cleared l′ ≡ cleared l
+cleared-kept k = rw (k .long, k .behind)
+
 pub cleared-store : (l : List ℕ) (width a : ℕ) (w : LaneWord) → length (w .values) ≡ lanes → cleared (storeBytes l width a w) ≡ cleared l
-cleared-store l width a w size = let k = store-kept l width a w size in rw (k .long, k .behind)
+cleared-store l width a w size = cleared-kept (store-kept l width a w size)
+
+pub cleared-store-value : (l : List ℕ) (width a v : ℕ) → cleared (storeValues l width a v) ≡ cleared l
+cleared-store-value l width a v = cleared-kept (store-value-kept l width a v)
 
 -- a loaded byte's values are bytes
 every-below : (n v : ℕ) → v < 256 → AllBytes (replicate n v)
@@ -72,21 +90,61 @@ pub load-below : (l : List ℕ) (a other : ℕ) → AllBytes l → other < 256 �
 unfolding loadByte constant
 load-below l a other b h = go (findRow l a)
   where
+    row : (t : Bool) (r : List ℕ) → AllBytes r → AllBytes (cond t (laneByte r) (constant lanes (getD r 8 0)) .values)
+    row true r d = below-take lanes (drop 8 r) (below-drop 8 r d)
+    row false r d = every-below lanes (getD r 8 0) (d 8)
+
     go : (r : Found) → AllBytes (loadAt r l other .values)
-    go (At s) = below-take lanes (drop 8 (rowAt l s)) (below-drop 8 (rowAt l s) (below-take 264 (drop (s * 264) l) (below-drop (s * 264) l b)))
+    go (At s) = row (eqb (getD (rowAt l s) 2 0) 0) (rowAt l s) (below-take 264 (drop (s * 264) l) (below-drop (s * 264) l b))
     go (Free s) = every-below lanes other h
     go Full = every-below lanes other h
 
+-- a byte joined below a value for each lane, and below others
+pub joined-all : (b : LaneWord) (high : List ℕ) → length high ≡ lanes → joined b high ≡ zip join (b .values) high
+unfolding joined
+joined-all b high h = rw (eq-eqb (length high) lanes h)
+
+pub joined-none : (b : LaneWord) (high : List ℕ) → (length high ≡ lanes → ⊥) → joined b high ≡ high
+unfolding joined
+joined-none b high d = rw (ne-eqb (length high) lanes d)
+
+-- one value for all lanes is known
+pub joined-value : (high : List ℕ) {v x : ℕ} {values : List ℕ} → v ≡ x → values ≡ joined (constant lanes v) high → Joined (constant lanes x) high true values
+unfolding constant
+joined-value high e j = (refl, rw e at j)
+
+-- a word's values and its known flag, joined
+pub joined-word : (b : LaneWord) (high : List ℕ) (known : Bool) {r after : Bool} {values : List ℕ} → length high ≡ lanes → Joined b high r values → after ≡ (r && known)
+    → record { values = values; known = after } ≡ binary join b (record { values = high; known = known })
+unfolding binary
+joined-word b high known h j e = rw (e, j .0, j .1, joined-all b high h)
+
+-- one value that is told for all lanes is what a load gives
+pub told-byte : (l : List ℕ) (a other : ℕ) {v : ℕ} → toldByte l a other ≡ Value v → loadByte l a other ≡ constant lanes v
+unfolding toldByte loadByte
+told-byte l a other {v} = go (findRow l a)
+  where
+    row : (t : Bool) (b : LaneWord) (x : ℕ) → cond t Uneven (Value x) ≡ Value v → cond t b (constant lanes x) ≡ constant lanes v
+    row true b x e = absurd (clash (cc))
+    row false b x e = let z : x ≡ v = cc in rw z
+
+    go : (r : Found) → toldAt r l other ≡ Value v → loadAt r l other ≡ constant lanes v
+    go (At s) e = row (eqb (getD (rowAt l s) 2 0) 0) (laneByte (rowAt l s)) (getD (rowAt l s) 8 0) e
+    go (Free s) e = row false (constant lanes other) other e
+    go Full e = row false (constant lanes other) other e
+
 -- ---- clearing
 
-zero-row : (k s : ℕ) (r : List ℕ) → s * 264 < k → held (replicate k 0 ++ r) s ≡ none
+free-row : (l : List ℕ) (s : ℕ) → getD l (s * 264) 0 ≡ 0 → held l s ≡ none
 unfolding held
-zero-row k s r h =
-    let z : getD (rowAt (replicate k 0 ++ r) s) 0 0 ≡ 0 =
-    row-first (replicate k 0 ++ r) s ∙ List·getD-append (replicate k 0) r 0 (s * 264) (omega (arith, length-replicate {A = ℕ} k 0)) ∙ getD-replicate {A = ℕ} k (s * 264) 0 0 h in
-    rw z
+free-row l s e = rw (row-first l s ∙ e)
 
-cleared-long : (l : List ℕ) → length (cleared l) ≡ length l
+zero-row : (k s : ℕ) (r : List ℕ) → s * 264 < k → held (replicate k 0 ++ r) s ≡ none
+zero-row k s r h =
+    free-row (replicate k 0 ++ r) s
+    (List·getD-append (replicate k 0) r 0 (s * 264) (omega (arith, length-replicate {A = ℕ} k 0)) ∙ getD-replicate {A = ℕ} k (s * 264) 0 0 h)
+
+pub cleared-long : (l : List ℕ) → length (cleared l) ≡ length l
 cleared-long l =
     length-append (replicate (rowCount l * 264) 0) (drop (rowCount l * 264) l)
     ∙ omega (arith, length-replicate {A = ℕ} (rowCount l * 264) 0, length-drop (rowCount l * 264) l)
@@ -100,6 +158,45 @@ holds-clear l =
     record {
       rows = ap (λ (n : ℕ). n / 264) (cleared-long l);
       table = table-none (held (cleared l)) (rowCount l) (λ s h. zero-row (rowCount l * 264) s (drop (rowCount l * 264) l) (omega arith));
+    }
+
+-- ---- unmarking
+
+unmark-long : (n : ℕ) (l : List ℕ) → length (unmarkRows n l) ≡ length l
+unfolding unmarkRows
+unmark-long zero l = refl
+unmark-long (suc n) l = length-set (unmarkRows n l) (n * 264) 0 ∙ unmark-long n l
+
+unmark-behind : (n : ℕ) (l : List ℕ) (k : ℕ) → n * 264 ≤ k → drop k (unmarkRows n l) ≡ drop k l
+unfolding unmarkRows
+unmark-behind zero l k h = refl
+unmark-behind (suc n) l k h = drop-set-lt k (unmarkRows n l) (n * 264) 0 (omega arith) ∙ unmark-behind n l k (omega arith)
+
+unmark-first : (n : ℕ) (l : List ℕ) (s : ℕ) → s < n → n * 264 ≤ length l → getD (unmarkRows n l) (s * 264) 0 ≡ 0
+unfolding unmarkRows
+unmark-first zero l s h b = omega arith
+unmark-first (suc n) l s h b =
+    ⊎-elim
+    (λ (z : s ≡ n). rw z (getD-set-same (unmarkRows n l) (n * 264) 0 0 (omega (arith, unmark-long n l))))
+    (λ (d : s ≡ n → ⊥).
+    getD-set-other (unmarkRows n l) (n * 264) (s * 264) 0 0 (λ q. d (omega arith))
+    ∙ unmark-first n l s (lt-of-le-ne (omega arith) d) (omega arith))
+    (same? s n)
+
+pub unmarked-kept : (l : List ℕ) → Kept l (unmarked l)
+unmarked-kept l = record { long = unmark-long (rowCount l) l; behind = unmark-behind (rowCount l) l (rowCount l * 264) (omega arith) }
+
+pub unmarked-long : (l : List ℕ) → length (unmarked l) ≡ length l
+unmarked-long l = unmarked-kept l .long
+
+pub cleared-unmarked : (l : List ℕ) → cleared (unmarked l) ≡ cleared l
+cleared-unmarked l = cleared-kept (unmarked-kept l)
+
+pub unmarked-holds : (l : List ℕ) → Holds (unmarked l) (rowCount l) []
+unmarked-holds l =
+    record {
+      rows = ap (λ (n : ℕ). n / 264) (unmarked-long l);
+      table = table-none (held (unmarked l)) (rowCount l) (λ s h. free-row (unmarked l) s (unmark-first (rowCount l) l s h (omega arith)));
     }
 
 -- ---- the rows hold a memory
@@ -143,37 +240,40 @@ module _ {l : List ℕ} {n : ℕ} {m : List Written} (h : Holds l n m) where
         let k : none ≡ lookup a m = rw f at (h .table .same a) in
         omega (arith, full-used (held l) a n f, h .table .count, length-put a b m, ap one k)
 
-    module _ (below : a < 2 ^ 32) (size : length (b .values) ≡ lanes) where
-      taken : (s : ℕ) → s < n → (findIn (held l) n a ≡ At s) ⊎ (findIn (held l) n a ≡ Free s) → Holds (writeRow l s (entry a b)) n (put a b m)
+    module _ (below : a < 2 ^ 32) {row : ℕ → List ℕ} (of : Renders row b) where
+      taken : (s : ℕ) → s < n → (findIn (held l) n a ≡ At s) ⊎ (findIn (held l) n a ≡ Free s) → Holds (writeRow l s (row a)) n (put a b m)
       taken s k e =
           let room : s * 264 + 264 ≤ length l = omega (arith, h .rows) in
-          let new : held (writeRow l s (entry a b)) s ≡ some (entry a b) = held-written l s (entry a b) size room below in
-          let kept : (t : ℕ) → (t ≡ s → ⊥) → held (writeRow l s (entry a b)) t ≡ held l t = held-others l s (entry a b) size in
+          let new : held (writeRow l s (row a)) s ≡ some (entry a b) = held-written of l s a room below in
+          let kept : (t : ℕ) → (t ≡ s → ⊥) → held (writeRow l s (row a)) t ≡ held l t = held-others l s (row a) (of .short a) in
           record {
-            rows = ap (λ (x : ℕ). x / 264) (write-long l s (entry a b)) ∙ h .rows;
+            rows = ap (λ (x : ℕ). x / 264) (write-long l s (row a)) ∙ h .rows;
             table = ⊎-elim
-                (put-old (held l) (held (writeRow l s (entry a b))) n s a b k new kept (h .table))
-                (put-new (held l) (held (writeRow l s (entry a b))) n s a b k new kept (h .table)) e;
+                (put-old (held l) (held (writeRow l s (row a))) n s a b k new kept (h .table))
+                (put-new (held l) (held (writeRow l s (row a))) n s a b k new kept (h .table)) e;
           }
 
-      pub holds-put : length (put a b m) ≤ n → Holds (storeByte l a b) n (put a b m)
-      unfolding storeByte
-      holds-put k = go (findRow l a) refl
+      holds-row : length (put a b m) ≤ n → Holds (storeRow l a (row a)) n (put a b m)
+      unfolding storeRow
+      holds-row k = go (findRow l a) refl
         where
-          go : (r : Found) → findRow l a ≡ r → Holds (storeAt r l (entry a b)) n (put a b m)
+          go : (r : Found) → findRow l a ≡ r → Holds (storeAt r l (row a)) n (put a b m)
           go (At s) e = let f : findIn (held l) n a ≡ At s = rw (h .rows) at e in taken s (at-has (held l) a n s f .1) (inl f)
           go (Free s) e = let f : findIn (held l) n a ≡ Free s = rw (h .rows) at e in taken s (free-none (held l) a n s f .1) (inr f)
           go Full e = absurd (omega (arith, full-exceeds e))
 
+  pub holds-put : (a : ℕ) (b : LaneWord) → a < 2 ^ 32 → length (b .values) ≡ lanes → length (put a b m) ≤ n → Holds (storeByte l a b) n (put a b m)
+  holds-put a b below size = holds-row a b below (lane-renders b size)
+
   pub exceeds-full : (a : ℕ) (b : LaneWord) → a < 2 ^ 32 → length (b .values) ≡ lanes → n < length (put a b m) → findRow l a ≡ Full
   exceeds-full a b below size k = go (findRow l a) refl
     where
-      fits : (s : ℕ) → Holds (writeRow l s (entry a b)) n (put a b m) → ⊥
-      fits s p = omega (arith, used-most (held (writeRow l s (entry a b))) n, p .table .count)
+      fits : (s : ℕ) → Holds (writeRow l s (laneRow a b)) n (put a b m) → ⊥
+      fits s p = omega (arith, used-most (held (writeRow l s (laneRow a b))) n, p .table .count)
 
       go : (r : Found) → findRow l a ≡ r → r ≡ Full
-      go (At s) e = let f : findIn (held l) n a ≡ At s = rw (h .rows) at e in absurd (fits s (taken a b below size s (at-has (held l) a n s f .1) (inl f)))
-      go (Free s) e = let f : findIn (held l) n a ≡ Free s = rw (h .rows) at e in absurd (fits s (taken a b below size s (free-none (held l) a n s f .1) (inr f)))
+      go (At s) e = let f : findIn (held l) n a ≡ At s = rw (h .rows) at e in absurd (fits s (taken a b below (lane-renders b size) s (at-has (held l) a n s f .1) (inl f)))
+      go (Free s) e = let f : findIn (held l) n a ≡ Free s = rw (h .rows) at e in absurd (fits s (taken a b below (lane-renders b size) s (free-none (held l) a n s f .1) (inr f)))
       go Full e = refl
 
   new-or-held : (a : ℕ) → newAt (findRow l a) + one (lookup a m) ≡ 1
@@ -200,13 +300,26 @@ module _ {l : List ℕ} {n : ℕ} {m : List Written} (h : Holds l n m) where
       ))
 
 -- the low bytes of a word are stored
-pub holds-store : {l : List ℕ} {n : ℕ} {m : List Written} → Holds l n m → (width a : ℕ) (w : LaneWord)
-    → length (w .values) ≡ lanes → a + width ≤ 2 ^ 32 → length (write m width a w) ≤ n → Holds (storeBytes l width a w) n (write m width a w)
-unfolding storeBytes write
-holds-store h zero a w size b f = h
-holds-store {l} {n} {m} h (suc k) a w size b f =
+holds-rows : {l : List ℕ} {n : ℕ} {m : List Written} → Holds l n m → (width a : ℕ) (w : LaneWord) (row : ℕ → ℕ → List ℕ) → ((k : ℕ) → Renders (row k) (byteOf k w))
+    → a + width ≤ 2 ^ 32 → length (write m width a w) ≤ n → Holds (storeRows l width a row) n (write m width a w)
+unfolding storeRows write
+holds-rows h zero a w row of b f = h
+holds-rows {l} {n} {m} h (suc k) a w row of b f =
     let x : (a + k) % 2 ^ 32 ≡ a + k = mod-eq-of-lt (omega arith) in
     let f′ : length (put (a + k) (byteOf k w) (write m k a w)) ≤ n = rw (write-suc k a w m) at f in
     let g : length (write m k a w) ≤ n = omega (arith, put-most (a + k) (byteOf k w) (write m k a w)) in
     rw (write-suc k a w m, x)
-    (holds-put (holds-store h k a w size (omega arith) g) (a + k) (byteOf k w) (omega arith) (byte-size k w size) f′)
+    (holds-row (holds-rows h k a w row of (omega arith) g) (a + k) (byteOf k w) (omega arith) (of k) f′)
+
+pub holds-store : {l : List ℕ} {n : ℕ} {m : List Written} → Holds l n m → (width a : ℕ) (w : LaneWord)
+    → length (w .values) ≡ lanes → a + width ≤ 2 ^ 32 → length (write m width a w) ≤ n → Holds (storeBytes l width a w) n (write m width a w)
+unfolding storeBytes
+holds-store h width a w size = holds-rows h width a w (λ k x. laneRow x (byteOf k w)) (λ k. lane-renders (byteOf k w) (byte-size k w size))
+
+-- the low bytes of a number that is the same in all lanes
+pub holds-store-value : {l : List ℕ} {n : ℕ} {m : List Written} → Holds l n m → (width a v : ℕ)
+    → a + width ≤ 2 ^ 32 → length (write m width a (constant lanes v)) ≤ n → Holds (storeValues l width a v) n (write m width a (constant lanes v))
+unfolding storeValues
+holds-store-value h width a v =
+    holds-rows h width a (constant lanes v) (λ k x. valueRow x (byteValue k v))
+    (λ k. subst (λ (b : LaneWord). Renders (λ x. valueRow x (byteValue k v)) b) (sym (byte-constant k v)) (value-renders (byteValue k v)))

@@ -1,15 +1,16 @@
 -- The invariants of the loops, each with its start, its step and its exits. Assumes nothing.
 use mathlib.Core.List.{List, _++_}
 use mathlib.Core.Path.{_≡_, refl, sym, _∙_}
-use Prim.Native.Nat.{ℕ, suc, _+_, _%_, _^_, _<_, _≤_}
+use Prim.Native.Nat.{ℕ, suc, _+_, _*_, _%_, _^_, _<_, _≤_}
 use native.Mathlib.Nat.{add-zero}
 use native.Mathlib.Numerals.{add-one}
 use native.Mathlib.Omega.{arith}
 use lib.ListN.{length, getD, take, drop, set, replicate, length-set, length-replicate, drop-of-length-le}
-use lib.Seq.{take-all, take-suc, take-suc-set, drop-cons, sets}
+use lib.Seq.{take-all, take-suc, take-suc-set, drop-cons, getD-set-other, sets}
 use Rattle.little_endian.proofs.SetLaws.{sets-over}
-use Rattle.lane_word.specs.declared.LaneWord.{LaneWord}
-use Rattle.lane_memory.specs.Rows.{findRow, byteOf, storeByte, storeBytes, newAt, newBytes}
+use Rattle.lane_word.specs.Word.{zip}
+use Rattle.lane_word.proofs.Tab.{Tab, tab-start, tab-step, tab-zip}
+use Rattle.lane_memory.specs.Rows.{findRow, storeRow, storeRows, newAt, newBytes, unmarkRows}
 use Rattle.lane_memory.specs.declared.Found.{Found}
 use Rattle.lane_memory.specs.declared.Found.the-variants.{At, Free, Full}
 
@@ -68,23 +69,43 @@ module _ {s : List ℕ} {n : ℕ} {out : List ℕ} {k : ℕ} (p : Copying s n ou
   pub copy-exit : n ≤ k → out ≡ s
   copy-exit h = rw (take-all k out (omega (arith, p .long)), take-all k s (omega (arith, p .size))) at (p .front)
 
--- ---- `store`: the first k bytes are stored
+-- ---- in place: the first k of r's n elements are f of l's and theirs, the others are r's still
 
-pub record Storing (l : List ℕ) (a : ℕ) (w : LaneWord) (width : ℕ) (out : List ℕ) (k : ℕ) : Type 0 where
+pub record Zipping (f : ℕ → ℕ → ℕ) (l r : List ℕ) (n : ℕ) (out : List ℕ) (k : ℕ) : Type 0 where
+  pub front : Tab (λ i. f (getD l i 0) (getD r i 0)) n out k
+  pub rest : (i : ℕ) → k ≤ i → getD out i 0 ≡ getD r i 0
+
+pub zip-start : {f : ℕ → ℕ → ℕ} {l r : List ℕ} {n : ℕ} → length r ≡ n → Zipping f l r n r 0
+zip-start e = record { front = tab-start e; rest = λ i h. refl }
+
+module _ {f : ℕ → ℕ → ℕ} {l r : List ℕ} {n : ℕ} {out : List ℕ} {k : ℕ} (s : Zipping f l r n out k) where
+  pub zip-step : {v x : ℕ} → k < n → x ≡ getD l k 0 → v ≡ f x (getD out k 0) → Zipping f l r n (set out k v) (k + 1)
+  zip-step {v} h x e =
+      record {
+        front = tab-step (s .front) h (e ∙ rw (x, s .rest k (omega arith)));
+        rest = λ i b. getD-set-other out k i v 0 (λ q. omega arith) ∙ s .rest i (omega arith);
+      }
+
+  pub zip-exit : n ≤ k → length l ≡ n → length r ≡ n → out ≡ zip f l r
+  zip-exit h e d = tab-zip f l r (s .front) h e d
+
+-- ---- `store`, `store_value`: the first k bytes are stored
+
+pub record Storing (l : List ℕ) (a : ℕ) (row : ℕ → ℕ → List ℕ) (width : ℕ) (out : List ℕ) (k : ℕ) : Type 0 where
   pub long : length out ≡ length l
   pub within : k ≤ width
-  pub is : out ≡ storeBytes l k a w
+  pub is : out ≡ storeRows l k a row
 
-pub store-start : (l : List ℕ) (a : ℕ) (w : LaneWord) (width : ℕ) → Storing l a w width l 0
-unfolding storeBytes
-store-start l a w width = record { long = refl; within = omega arith; is = refl }
+pub store-start : (l : List ℕ) (a : ℕ) (row : ℕ → ℕ → List ℕ) (width : ℕ) → Storing l a row width l 0
+unfolding storeRows
+store-start l a row width = record { long = refl; within = omega arith; is = refl }
 
-module _ {l : List ℕ} {a : ℕ} {w : LaneWord} {width : ℕ} {out : List ℕ} {k : ℕ} (s : Storing l a w width out k) where
-  pub store-step : {x : ℕ} {out′ : List ℕ} → k < width → x ≡ (a + k) % 2 ^ 32 → out′ ≡ storeByte out x (byteOf k w) → length out′ ≡ length out → Storing l a w width out′ (k + 1)
-  unfolding storeBytes
+module _ {l : List ℕ} {a : ℕ} {row : ℕ → ℕ → List ℕ} {width : ℕ} {out : List ℕ} {k : ℕ} (s : Storing l a row width out k) where
+  pub store-step : {x : ℕ} {out′ : List ℕ} → k < width → x ≡ (a + k) % 2 ^ 32 → out′ ≡ storeRow out x (row k x) → length out′ ≡ length out → Storing l a row width out′ (k + 1)
+  unfolding storeRows
   store-step h x e f = record { long = f ∙ s .long; within = omega arith; is = rw (e, add-one, x, s .is) }
 
-  pub store-exit : width ≤ k → out ≡ storeBytes l width a w
+  pub store-exit : width ≤ k → out ≡ storeRows l width a row
   store-exit h = let z : k ≡ width = omega (arith, s .within) in rw z at (s .is)
 
 -- ---- `new_bytes`: so many of the first k bytes are new
@@ -114,3 +135,22 @@ module _ {l : List ℕ} {a width new k : ℕ} (s : Counting l a width new k) whe
 
   pub count-exit : width ≤ k → new ≡ newBytes l width a
   count-exit h = let z : k ≡ width = omega (arith, s .within) in rw z at (s .is)
+
+-- ---- `unmark`: the first k rows are free
+
+pub record Unmarking (l : List ℕ) (n : ℕ) (out : List ℕ) (k : ℕ) : Type 0 where
+  pub long : length out ≡ length l
+  pub within : k ≤ n
+  pub is : out ≡ unmarkRows k l
+
+pub unmark-start : (l : List ℕ) (n : ℕ) → Unmarking l n l 0
+unfolding unmarkRows
+unmark-start l n = record { long = refl; within = omega arith; is = refl }
+
+module _ {l : List ℕ} {n : ℕ} {out : List ℕ} {k : ℕ} (s : Unmarking l n out k) where
+  pub unmark-step : k < n → Unmarking l n (set out (k * 264) 0) (k + 1)
+  unfolding unmarkRows
+  unmark-step h = record { long = length-set out (k * 264) 0 ∙ s .long; within = omega arith; is = rw (add-one, s .is) }
+
+  pub unmark-exit : n ≤ k → out ≡ unmarkRows n l
+  unmark-exit h = let z : k ≡ n = omega (arith, s .within) in rw z at (s .is)

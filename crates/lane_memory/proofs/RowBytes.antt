@@ -12,11 +12,12 @@ use lib.Arith.{lt-of-le-ne}
 use lib.Dec.{eqb}
 use lib.ListN.{length, getD, take, drop, set, length-drop}
 use lib.Seq.{take-take, take-at, drop-at, drop-drop, getD-take, getD-drop, length-take-le, take-set-le, drop-set-lt, sets, length-sets, sets-eq}
-use Rattle.predicate_semantics.specs.Memory.{Written}
 use Rattle.little_endian.specs.Number.{value, bytes}
 use Rattle.little_endian.proofs.NumberLaws.{value-bytes}
 use Rattle.little_endian.proofs.SetLaws.{sets-append}
-use Rattle.lane_memory.specs.Rows.{lanes, rowAt, rowByte, rowHolds, held, probe, headOf, writeRow}
+use Rattle.lane_word.specs.declared.LaneWord.{LaneWord}
+use Rattle.lane_word.specs.Word.{constant}
+use Rattle.lane_memory.specs.Rows.{lanes, rowAt, laneByte, rowByte, rowHolds, held, probe, headOf, laneRow, valueRow, writeRow}
 use Rattle.lane_memory.specs.declared.Probe.the-variants.{Empty, Match, Other}
 use Rattle.lane_memory.proofs.Search.{less?}
 
@@ -74,8 +75,18 @@ module _ (l : List ℕ) (s : ℕ) where
   row-value i h = sym (getD-take lanes (drop (s * 264 + 8) l) i 0 h ∙ getD-drop (s * 264 + 8) l i 0)
 
   pub row-read : {values : List ℕ} {known : Bool} → values ≡ take lanes (drop (s * 264 + 8) l) → known ≡ not (eqb (getD l (s * 264 + 1) 0) 0)
-      → record { values = values; known = known } ≡ rowByte (rowAt l s)
+      → record { values = values; known = known } ≡ laneByte (rowAt l s)
   row-read e f = rw (e, f, row-part 8 lanes (omega arith), row-at 1 (omega arith))
+
+  -- the test of the uniform mark
+  pub row-plain : getD l (s * 264 + 2) 0 ≡ 0 → eqb (getD (rowAt l s) 2 0) 0 ≡ true
+  row-plain e = eq-eqb _ _ (row-at 2 (omega arith) ∙ e)
+
+  pub row-marked : (getD l (s * 264 + 2) 0 ≡ 0 → ⊥) → eqb (getD (rowAt l s) 2 0) 0 ≡ false
+  row-marked d = ne-eqb _ _ (λ z. d (sym (row-at 2 (omega arith)) ∙ z))
+
+  pub row-first-value : getD (rowAt l s) 8 0 ≡ getD l (s * 264 + 8) 0
+  row-first-value = row-at 8 (omega arith)
 
 -- ---- a row is written
 
@@ -83,47 +94,63 @@ mark-known : (k : Bool) → not (eqb (cond k 1 0) 0) ≡ k
 mark-known true = refl
 mark-known false = refl
 
-pub head-set : (l : List ℕ) (at a : ℕ) (known : Bool) {mark : ℕ} → mark ≡ cond known 1 0
-    → sets (set (set (set (set l at 1) (at + 1) mark) (at + 2) 0) (at + 3) 0) (at + 4) (bytes 4 a) ≡ sets l at (headOf known a)
-head-set l at a known e =
+pub head-set : (l : List ℕ) (at a : ℕ) (known uniform : Bool) {mark mark2 : ℕ} → mark ≡ cond known 1 0 → mark2 ≡ cond uniform 1 0
+    → sets (set (set (set (set l at 1) (at + 1) mark) (at + 2) mark2) (at + 3) 0) (at + 4) (bytes 4 a) ≡ sets l at (headOf known uniform a)
+head-set l at a known uniform e f =
     let e1 : at + 1 ≡ suc at = omega arith in
     let e2 : at + 2 ≡ suc (suc at) = omega arith in
     let e3 : at + 3 ≡ suc (suc (suc at)) = omega arith in
     let e4 : at + 4 ≡ suc (suc (suc (suc at))) = omega arith in
-    rw (e1, e2, e3, e4, e)
+    rw (e1, e2, e3, e4, e, f)
 
-pub row-set : (l : List ℕ) (s : ℕ) (w : Written) {l₁ l₂ : List ℕ} → l₁ ≡ sets l (s * 264) (headOf (w .byte .known) (w .address)) → l₂ ≡ sets l₁ (s * 264 + 8) (w .byte .values)
-    → l₂ ≡ writeRow l s w
-row-set l s w e f = f ∙ rw e (sets-append (headOf (w .byte .known) (w .address)) (w .byte .values) l (s * 264))
+pub row-set : (l : List ℕ) (s a : ℕ) (known uniform : Bool) (vs : List ℕ) {l₁ l₂ : List ℕ}
+    → l₁ ≡ sets l (s * 264) (headOf known uniform a) → l₂ ≡ sets l₁ (s * 264 + 8) vs → l₂ ≡ writeRow l s (headOf known uniform a ++ vs)
+row-set l s a known uniform vs e f = f ∙ rw e (sets-append (headOf known uniform a) vs l (s * 264))
 
-pub write-long : (l : List ℕ) (s : ℕ) (w : Written) → length (writeRow l s w) ≡ length l
-write-long l s w = length-sets l (s * 264) (headOf (w .byte .known) (w .address) ++ w .byte .values)
+module _ (l : List ℕ) (s : ℕ) (row : List ℕ) where
+  pub write-long : length (writeRow l s row) ≡ length l
+  write-long = length-sets l (s * 264) row
 
-module _ (l : List ℕ) (s : ℕ) (w : Written) (size : length (w .byte .values) ≡ lanes) where
-  abbrev image : List ℕ
-  image = headOf (w .byte .known) (w .address) ++ w .byte .values
+  module _ (short : length row ≤ 264) where
+    pub write-behind : (k : ℕ) → s * 264 + 264 ≤ k → drop k (writeRow l s row) ≡ drop k l
+    write-behind k h = drop-sets row l (s * 264) k (omega arith)
 
-  pub write-behind : (k : ℕ) → s * 264 + (8 + lanes) ≤ k → drop k (writeRow l s w) ≡ drop k l
-  write-behind k h = drop-sets image l (s * 264) k (omega (arith, size))
+    row-written : s * 264 + 264 ≤ length l → drop (s * 264) (writeRow l s row) ≡ row ++ drop (s * 264 + length row) l
+    row-written room =
+        let rest : List ℕ = drop (s * 264 + length row) l in
+        ap (λ (r : List ℕ). drop (s * 264) r) (sets-eq row l (s * 264) (omega arith) ∙ append-assoc (take (s * 264) l) row rest)
+        ∙ drop-at (take (s * 264) l) (row ++ rest) (s * 264) (length-take-le (s * 264) l (omega arith))
 
-  pub held-written : s * 264 + 264 ≤ length l → w .address < 2 ^ 32 → held (writeRow l s w) s ≡ some w
-  unfolding held
-  held-written room below =
-      let rest : List ℕ = drop (s * 264 + length image) l in
-      let e : drop (s * 264) (writeRow l s w) ≡ image ++ rest =
-      ap (λ (r : List ℕ). drop (s * 264) r) (sets-eq image l (s * 264) (omega (arith, size)) ∙ append-assoc (take (s * 264) l) image rest)
-      ∙ drop-at (take (s * 264) l) (image ++ rest) (s * 264) (length-take-le (s * 264) l (omega arith)) in
-      ap (λ (r : List ℕ). rowHolds (take 264 r)) e
-      ∙ rw (take-take lanes 256 (w .byte .values ++ rest) (omega arith), take-at (w .byte .values) rest lanes size, value-bytes 4 (w .address) below, mark-known (w .byte .known))
+    pub held-others : (t : ℕ) → (t ≡ s → ⊥) → held (writeRow l s row) t ≡ held l t
+    unfolding held
+    held-others t d =
+        ⊎-elim
+        (λ (h : t < s).
+        ap rowHolds
+        (sym (part-take (t * 264) 264 (s * 264) (writeRow l s row) (omega arith))
+        ∙ ap (λ (r : List ℕ). take 264 (drop (t * 264) r)) (take-sets row l (s * 264) (s * 264) (omega arith))
+        ∙ part-take (t * 264) 264 (s * 264) l (omega arith)))
+        (λ (h : s ≤ t). ap (λ (r : List ℕ). rowHolds (take 264 r)) (write-behind (t * 264) (let q : s < t = lt-of-le-ne h (λ z. d (sym z)) in omega arith)))
+        (less? t s)
 
-  pub held-others : (t : ℕ) → (t ≡ s → ⊥) → held (writeRow l s w) t ≡ held l t
-  unfolding held
-  held-others t d =
-      ⊎-elim
-      (λ (h : t < s).
-      ap rowHolds
-      (sym (part-take (t * 264) 264 (s * 264) (writeRow l s w) (omega arith))
-      ∙ ap (λ (r : List ℕ). take 264 (drop (t * 264) r)) (take-sets image l (s * 264) (s * 264) (omega arith))
-      ∙ part-take (t * 264) 264 (s * 264) l (omega arith)))
-      (λ (h : s ≤ t). ap (λ (r : List ℕ). rowHolds (take 264 r)) (write-behind (t * 264) (let q : s < t = lt-of-le-ne h (λ z. d (sym z)) in omega arith)))
-      (less? t s)
+-- a row that starts with `row x` holds the byte b of address x, whatever follows
+pub record Renders (row : ℕ → List ℕ) (b : LaneWord) : Type 0 where
+  pub short : (x : ℕ) → length (row x) ≤ 264
+  pub holds : (x : ℕ) (rest : List ℕ) → x < 2 ^ 32 → rowHolds (take 264 (row x ++ rest)) ≡ some (record { address = x; byte = b })
+
+pub held-written : {row : ℕ → List ℕ} {b : LaneWord} → Renders row b → (l : List ℕ) (s a : ℕ) → s * 264 + 264 ≤ length l → a < 2 ^ 32
+    → held (writeRow l s (row a)) s ≡ some (record { address = a; byte = b })
+unfolding held
+held-written {row} r l s a room below =
+    ap (λ (x : List ℕ). rowHolds (take 264 x)) (row-written l s (row a) (r .short a) room) ∙ r .holds a (drop (s * 264 + length (row a)) l) below
+
+pub lane-renders : (b : LaneWord) → length (b .values) ≡ lanes → Renders (λ x. laneRow x b) b
+lane-renders b size =
+    record {
+      short = λ x. omega (arith, size);
+      holds = λ x rest below.
+          rw (take-take lanes 256 (b .values ++ rest) (omega arith), take-at (b .values) rest lanes size, value-bytes 4 x below, mark-known (b .known));
+    }
+
+pub value-renders : (v : ℕ) → Renders (λ x. valueRow x v) (constant lanes v)
+value-renders v = record { short = λ x. omega arith; holds = λ x rest below. rw (value-bytes 4 x below) }

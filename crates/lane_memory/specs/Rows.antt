@@ -1,22 +1,25 @@
 -- The rows of lent memory (document 01, "Written byte"): what a row holds, how an address's row is found, and what each function answers and leaves.
-use mathlib.Core.Bool.{Bool, cond, not}
-use mathlib.Core.List.{List, _∷_, _++_}
+use mathlib.Core.Bool.{Bool, true, false, cond, not}
+use mathlib.Core.List.{List, [], _∷_, _++_}
 use mathlib.Core.Option.{Option, none, some}
+use mathlib.Core.Path.{_≡_}
 use Prim.Native.Nat.{ℕ, zero, suc, _+_, _*_, _/_, _%_, _^_}
 use lib.Dec.{eqb, ltb}
-use lib.ListN.{length, getD, take, drop, replicate}
+use lib.ListN.{length, getD, take, drop, set, replicate}
 use lib.Seq.{sets}
 use Rattle.little_endian.specs.Number.{value, bytes}
 use Rattle.riscv32imc.specs.Bits as Bits
 use Rattle.lane_word.specs.declared.LaneWord.{LaneWord}
-use Rattle.lane_word.specs.Word.{constant, unary}
+use Rattle.lane_word.specs.declared.Uniform.{Uniform}
+use Rattle.lane_word.specs.declared.Uniform.the-variants.{Value, Uneven}
+use Rattle.lane_word.specs.Word.{constant, unary, zip}
 use Rattle.predicate_semantics.specs.Memory.{Written}
 use Rattle.lane_memory.specs.declared.Probe.{Probe}
 use Rattle.lane_memory.specs.declared.Probe.the-variants.{Empty, Match, Other}
 use Rattle.lane_memory.specs.declared.Found.{Found}
 use Rattle.lane_memory.specs.declared.Found.the-variants.{At, Free, Full}
 
--- the size of a row, chosen once: a used mark, a known mark, two zeros, 4 bytes of address, 256 lane values of a byte each
+-- the size of a row, chosen once: a used mark, a known mark, a uniform mark, a zero, 4 bytes of address, 256 lane values of a byte each
 abbrev pub rowBytes : ℕ
 rowBytes = 264
 
@@ -32,9 +35,13 @@ rowCount memory = length memory / rowBytes
 abbrev pub rowAt : List ℕ → ℕ → List ℕ
 rowAt memory s = take rowBytes (drop (s * rowBytes) memory)
 
--- the written byte in a row's bytes
+-- the lanes of a row's bytes
+abbrev pub laneByte : List ℕ → LaneWord
+laneByte row = record { values = take lanes (drop 8 row); known = not (eqb (getD row 1 0) 0) }
+
+-- the written byte in a row's bytes: where the uniform mark is not 0, lane value 0 serves for every lane
 abbrev pub rowByte : List ℕ → LaneWord
-rowByte row = record { values = take lanes (drop 8 row); known = not (eqb (getD row 1 0) 0) }
+rowByte row = cond (eqb (getD row 2 0) 0) (laneByte row) (constant lanes (getD row 8 0))
 
 -- what a row holds: nothing where its used mark is 0
 abbrev pub rowHolds : List ℕ → Option Written
@@ -79,26 +86,46 @@ abbrev pub byteOf : ℕ → LaneWord → LaneWord
 byteOf k w = unary (byteValue k) w
 
 -- the bytes of a row before its lane values
-abbrev pub headOf : Bool → ℕ → List ℕ
-headOf known a = 1 ∷ cond known 1 0 ∷ 0 ∷ 0 ∷ bytes 4 a
+abbrev pub headOf : Bool → Bool → ℕ → List ℕ
+headOf known uniform a = 1 ∷ cond known 1 0 ∷ cond uniform 1 0 ∷ 0 ∷ bytes 4 a
 
--- row s with a written byte; the lane values that do not serve stay
-abbrev pub writeRow : List ℕ → ℕ → Written → List ℕ
-writeRow memory s w = sets memory (s * rowBytes) (headOf (w .byte .known) (w .address) ++ w .byte .values)
+-- what a row of address a starts with: a byte's lanes, or one value for all lanes
+abbrev pub laneRow : ℕ → LaneWord → List ℕ
+laneRow a b = headOf (b .known) false a ++ b .values
+
+abbrev pub valueRow : ℕ → ℕ → List ℕ
+valueRow a v = headOf true true a ++ (v ∷ [])
+
+-- row s with another start; its other bytes stay
+abbrev pub writeRow : List ℕ → ℕ → List ℕ → List ℕ
+writeRow memory s row = sets memory (s * rowBytes) row
 
 -- a stored byte takes its address's row or a free one; where there is neither, nothing changes
-abbrev pub storeAt : Found → List ℕ → Written → List ℕ
-storeAt (At s) memory w = writeRow memory s w
-storeAt (Free s) memory w = writeRow memory s w
-storeAt Full memory w = memory
+abbrev pub storeAt : Found → List ℕ → List ℕ → List ℕ
+storeAt (At s) memory row = writeRow memory s row
+storeAt (Free s) memory row = writeRow memory s row
+storeAt Full memory row = memory
 
-unfoldable pub storeByte : List ℕ → ℕ → LaneWord → List ℕ
-storeByte memory a b = storeAt (findRow memory a) memory (record { address = a; byte = b })
+unfoldable pub storeRow : List ℕ → ℕ → List ℕ → List ℕ
+storeRow memory a row = storeAt (findRow memory a) memory row
 
--- the low n bytes of a word, byte k at address a + k; the last address is followed by 0
+abbrev pub storeByte : List ℕ → ℕ → LaneWord → List ℕ
+storeByte memory a b = storeRow memory a (laneRow a b)
+
+abbrev pub storeValue : List ℕ → ℕ → ℕ → List ℕ
+storeValue memory a v = storeRow memory a (valueRow a v)
+
+-- n bytes, byte k at address a + k with the row that `row k` makes for it; the last address is followed by 0
+unfoldable pub storeRows : List ℕ → ℕ → ℕ → (ℕ → ℕ → List ℕ) → List ℕ
+storeRows memory zero a row = memory
+storeRows memory (suc k) a row = storeRow (storeRows memory k a row) ((a + k) % 2 ^ 32) (row k ((a + k) % 2 ^ 32))
+
+-- the low n bytes of a word, and of a number that is the same in all lanes
 unfoldable pub storeBytes : List ℕ → ℕ → ℕ → LaneWord → List ℕ
-storeBytes memory zero a w = memory
-storeBytes memory (suc k) a w = storeByte (storeBytes memory k a w) ((a + k) % 2 ^ 32) (byteOf k w)
+storeBytes memory n a w = storeRows memory n a (λ k x. laneRow x (byteOf k w))
+
+unfoldable pub storeValues : List ℕ → ℕ → ℕ → ℕ → List ℕ
+storeValues memory n a v = storeRows memory n a (λ k x. valueRow x (byteValue k v))
 
 -- the written byte, or the one given
 abbrev pub loadAt : Found → List ℕ → ℕ → LaneWord
@@ -108,6 +135,26 @@ loadAt Full memory other = constant lanes other
 
 unfoldable pub loadByte : List ℕ → ℕ → ℕ → LaneWord
 loadByte memory a other = loadAt (findRow memory a) memory other
+
+-- a byte below the values above it, in each lane; where there is not a value for each lane, they stay
+unfoldable pub joined : LaneWord → List ℕ → List ℕ
+joined b high = cond (eqb (length high) lanes) (zip Bits.join (b .values) high) high
+
+-- what a byte's join answers and leaves: whether the byte is known, and the values
+abbrev pub Joined : LaneWord → List ℕ → Bool → List ℕ → Type 0
+Joined b high known values = (known ≡ b .known) × (values ≡ joined b high)
+
+-- whether a row has one value for all lanes; what was not written has
+abbrev pub toldRow : List ℕ → Uniform
+toldRow row = cond (eqb (getD row 2 0) 0) Uneven (Value (getD row 8 0))
+
+abbrev pub toldAt : Found → List ℕ → ℕ → Uniform
+toldAt (At s) memory other = toldRow (rowAt memory s)
+toldAt (Free s) memory other = Value other
+toldAt Full memory other = Value other
+
+unfoldable pub toldByte : List ℕ → ℕ → ℕ → Uniform
+toldByte memory a other = toldAt (findRow memory a) memory other
 
 -- how many of a store's n bytes have no row yet
 abbrev pub newAt : Found → ℕ
@@ -122,3 +169,11 @@ newBytes memory (suc k) a = newBytes memory k a + newAt (findRow memory ((a + k)
 -- zeros in every whole row; "a remainder is untouched"
 abbrev pub cleared : List ℕ → List ℕ
 cleared memory = replicate (rowCount memory * rowBytes) 0 ++ drop (rowCount memory * rowBytes) memory
+
+-- the first n rows are free, all whole rows are: only their used marks change
+unfoldable pub unmarkRows : ℕ → List ℕ → List ℕ
+unmarkRows zero memory = memory
+unmarkRows (suc n) memory = set (unmarkRows n memory) (n * rowBytes) 0
+
+abbrev pub unmarked : List ℕ → List ℕ
+unmarked memory = unmarkRows (rowCount memory) memory

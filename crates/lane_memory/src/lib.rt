@@ -7,10 +7,14 @@ ghost use lib.ListN.{length};
 ghost use lib.Seq.{sets};
 ghost use Rattle.lane_word.specs.Word.{constant};
 ghost use Rattle.predicate_semantics.specs.Memory.{Written};
-ghost use Rattle.lane_memory.specs.Rows.{lanes, held, probe, next, rowCount, findRow, byteValue, byteOf, headOf, writeRow, storeByte, storeBytes, rowAt, rowByte, loadByte, newAt, newBytes, cleared};
+ghost use Rattle.lane_memory.specs.Rows.{lanes, held, probe, next, rowCount, findRow, byteValue, byteOf, headOf, laneRow, valueRow, writeRow, storeByte, storeValue, storeBytes, storeValues, rowAt, laneByte, rowByte, loadByte, joined, Joined, toldRow, toldByte, newAt, newBytes, unmarked, cleared};
 use lane_word::LaneWord;
+use lane_word::Uniform;
+use riscv32imc::arithmetic::Binary;
+use riscv32imc::arithmetic::value;
 
-// A row: a used mark, a known mark, two zeros, the address in 4 bytes, 256 lane values of a byte each.
+// A row: a used mark, a known mark, a uniform mark, a zero, the address in 4 bytes, 256 lane values of a byte each.
+// Under a uniform mark the byte is known and lane value 0 serves for every lane.
 pub const ROW_BYTES: usize = 264;
 
 // What a search for an address comes to: its row, a free row for it, or neither.
@@ -95,13 +99,13 @@ fn mark(known: bool) -> u8
     if known { 1 } else { 0 }
 }
 
-fn write_head(rows: &mut [u8], at: usize, known: bool, address: u32)
+fn write_head(rows: &mut [u8], at: usize, known: bool, uniform: bool, address: u32)
     requires { ⌜ at + 8 ≤ length (now rows) ⌝ }
-    ensures { λ r. ⌜ now (rows .exit) ≡ sets (now (rows .entry)) at (headOf known address) ⌝ }
+    ensures { λ r. ⌜ now (rows .exit) ≡ sets (now (rows .entry)) at (headOf known uniform address) ⌝ }
 {
     rows[at] = 1;
     rows[at + 1] = mark(known);
-    rows[at + 2] = 0;
+    rows[at + 2] = mark(uniform);
     rows[at + 3] = 0;
     little_endian::put_u32(rows, at + 4, address);
 }
@@ -119,10 +123,10 @@ fn write_lanes(rows: &mut [u8], at: usize, values: [u32; 250], place: u32)
 
 fn write_row(rows: &mut [u8], row: usize, address: u32, word: LaneWord, place: u32)
     requires { ⌜ row * 264 + 264 ≤ length (now rows) ⌝ }
-    ensures { λ r. ⌜ now (rows .exit) ≡ writeRow (now (rows .entry)) row (record { address = address; byte = byteOf place word }) ⌝ }
+    ensures { λ r. ⌜ now (rows .exit) ≡ writeRow (now (rows .entry)) row (laneRow address (byteOf place word)) ⌝ }
 {
     let at = row * ROW_BYTES;
-    write_head(rows, at, word.known, address);
+    write_head(rows, at, word.known, false, address);
     let values = word.values;
     write_lanes(rows, at + 8, values, place);
 }
@@ -146,6 +150,42 @@ pub fn store(rows: &mut [u8], address: u32, width: u32, word: LaneWord)
     let mut k: u32 = 0;
     while k < width {
         store_byte(rows, std::num::wrapping_add_u32(address, k), word, k);
+        k += 1;
+    }
+}
+
+fn write_value(rows: &mut [u8], row: usize, address: u32, value: u8)
+    requires { ⌜ row * 264 + 264 ≤ length (now rows) ⌝ }
+    ensures { λ r. ⌜ now (rows .exit) ≡ writeRow (now (rows .entry)) row (valueRow address value) ⌝ }
+{
+    let at = row * ROW_BYTES;
+    write_head(rows, at, true, true, address);
+    rows[at + 8] = value;
+}
+
+// Store one value for all lanes; a byte that finds no row is not stored.
+fn store_value_byte(rows: &mut [u8], address: u32, value: u8)
+    ensures { λ r. ⌜ now (rows .exit) ≡ storeValue (now (rows .entry)) address value ⌝ }
+{
+    let found = find(rows, address);
+    match found {
+        Found::At(row) => write_value(rows, row, address, value),
+        Found::Free(row) => write_value(rows, row, address, value),
+        Found::Full => {}
+    }
+}
+
+// Store the lowest `width` bytes of a number that is the same in all lanes.
+pub fn store_value(rows: &mut [u8], address: u32, width: u32, value: u32)
+    ensures { λ r. ⌜ now (rows .exit) ≡ storeValues (now (rows .entry)) width address value ⌝ }
+{
+    let mut k: u32 = 0;
+    while k < width {
+        store_value_byte(
+            rows,
+            std::num::wrapping_add_u32(address, k),
+            byte_of(value, k),
+        );
         k += 1;
     }
 }
@@ -180,9 +220,9 @@ fn wide(x: u8) -> u32
     x as u32
 }
 
-fn read_row(rows: &[u8], row: usize) -> LaneWord
+fn read_lanes(rows: &[u8], row: usize) -> LaneWord
     requires { ⌜ row * 264 + 264 ≤ length (now rows) ⌝ }
-    ensures { λ r. ⌜ r ≡ rowByte (rowAt (now (rows .entry)) row) ⌝ }
+    ensures { λ r. ⌜ r ≡ laneByte (rowAt (now (rows .entry)) row) ⌝ }
 {
     let at = row * ROW_BYTES;
     let first = at + 8;
@@ -207,6 +247,17 @@ fn every_lane(value: u8) -> LaneWord
     }
 }
 
+fn read_row(rows: &[u8], row: usize) -> LaneWord
+    requires { ⌜ row * 264 + 264 ≤ length (now rows) ⌝ }
+    ensures { λ r. ⌜ r ≡ rowByte (rowAt (now (rows .entry)) row) ⌝ }
+{
+    let at = row * ROW_BYTES;
+    if rows[at + 2] == 0 {
+        return read_lanes(rows, row);
+    }
+    every_lane(rows[at + 8])
+}
+
 // The byte at an address: the written one, or `other` in every lane.
 pub fn load_byte(rows: &[u8], address: u32, other: u8) -> LaneWord
     ensures { λ r. ⌜ r ≡ loadByte (now (rows .entry)) address other ⌝ }
@@ -216,6 +267,101 @@ pub fn load_byte(rows: &[u8], address: u32, other: u8) -> LaneWord
         Found::At(row) => read_row(rows, row),
         Found::Free(_) => every_lane(other),
         Found::Full => every_lane(other),
+    }
+}
+
+fn told_row(rows: &[u8], row: usize) -> Uniform
+    requires { ⌜ row * 264 + 264 ≤ length (now rows) ⌝ }
+    ensures { λ r. ⌜ r ≡ toldRow (rowAt (now (rows .entry)) row) ⌝ }
+{
+    let at = row * ROW_BYTES;
+    if rows[at + 2] == 0 {
+        return Uniform::Uneven;
+    }
+    Uniform::Value(wide(rows[at + 8]))
+}
+
+// The byte at an address where one value is told for all lanes: no lane is compared.
+pub fn told_byte(rows: &[u8], address: u32, other: u8) -> Uniform
+    ensures { λ r. ⌜ r ≡ toldByte (now (rows .entry)) address other ⌝ }
+{
+    let found = find(rows, address);
+    match found {
+        Found::At(row) => told_row(rows, row),
+        Found::Free(_) => Uniform::Value(wide(other)),
+        Found::Full => Uniform::Value(wide(other)),
+    }
+}
+
+// A number below each lane's value above it.
+pub fn join_value(low: u32, values: &mut [u32])
+    ensures { λ r. ⌜ now (values .exit) ≡ joined (constant lanes low) (now (values .entry)) ⌝ }
+{
+    if values.len() != LaneWord::LANES {
+        return;
+    }
+    let mut k: usize = 0;
+    while k < LaneWord::LANES {
+        values[k] = value(Binary::Join, low, values[k]);
+        k += 1;
+    }
+}
+
+fn join_lanes(rows: &[u8], row: usize, values: &mut [u32])
+    requires { ⌜ row * 264 + 264 ≤ length (now rows) ⌝ }
+    ensures { λ r. ⌜ now (values .exit) ≡ joined (laneByte (rowAt (now (rows .entry)) row)) (now (values .entry)) ⌝ }
+{
+    if values.len() != LaneWord::LANES {
+        return;
+    }
+    let first = row * ROW_BYTES + 8;
+    let mut k: usize = 0;
+    while k < LaneWord::LANES {
+        values[k] = value(Binary::Join, wide(rows[first + k]), values[k]);
+        k += 1;
+    }
+}
+
+fn join_row(rows: &[u8], row: usize, values: &mut [u32]) -> bool
+    requires { ⌜ row * 264 + 264 ≤ length (now rows) ⌝ }
+    ensures { λ r. ⌜ Joined (rowByte (rowAt (now (rows .entry)) row)) (now (values .entry)) r (now (values .exit)) ⌝ }
+{
+    let at = row * ROW_BYTES;
+    if rows[at + 2] == 0 {
+        join_lanes(rows, row, values);
+        return rows[at + 1] != 0;
+    }
+    join_value(wide(rows[at + 8]), values);
+    true
+}
+
+// The byte at an address below the values above it, in their place; whether the byte is known.
+pub fn join_values(rows: &[u8], address: u32, other: u8, values: &mut [u32]) -> bool
+    ensures { λ r. ⌜ Joined (loadByte (now (rows .entry)) address other) (now (values .entry)) r (now (values .exit)) ⌝ }
+{
+    let found = find(rows, address);
+    match found {
+        Found::At(row) => join_row(rows, row, values),
+        Found::Free(_) => {
+            join_value(wide(other), values);
+            true
+        }
+        Found::Full => {
+            join_value(wide(other), values);
+            true
+        }
+    }
+}
+
+// Every whole row is free again; only its used mark changes.
+pub fn unmark(rows: &mut [u8])
+    ensures { λ r. ⌜ now (rows .exit) ≡ unmarked (now (rows .entry)) ⌝ }
+{
+    let count = rows.len() / ROW_BYTES;
+    let mut row: usize = 0;
+    while row < count {
+        rows[row * ROW_BYTES] = 0;
+        row += 1;
     }
 }
 

@@ -1,15 +1,19 @@
-// Fills lent memory to its last row, in three orders, overwrites, reads back and clears it, stores words, and does the same to memory
-// that has no row. Prints how many answers, lanes and bytes differ from what they must be.
+// Fills lent memory to its last row, in three orders, overwrites, reads back and clears it, stores words, and values that all lanes share,
+// and does the same to memory that has no row. Prints how many answers, lanes and bytes differ from what they must be.
 ghost use mathlib.Core.Path.{_≡_};
 ghost use Prim.Native.Nat.{_+_, _*_, _%_, _^_, _≤_, _<_};
 ghost use lib.ListN.{length};
 use lane_memory::Found;
 use lane_word::LaneWord;
+use lane_word::Uniform;
+use riscv32imc::arithmetic::Binary;
 
 // What lent memory holds before a case, and its remainder after it.
 const BEFORE: u32 = 0xa5;
 // What an address that was not written reads as.
 const OTHER: u8 = 7;
+// What stands for a byte of which no one value is told.
+const UNEVEN: u32 = 1000;
 
 // How many answers, lanes and bytes were compared, and how many differ.
 struct Tally {
@@ -371,6 +375,153 @@ fn no_rows(memory: &mut [u8]) -> Tally
     tally
 }
 
+fn told(what: Uniform) -> u32 {
+    match what {
+        Uniform::Value(value) => value,
+        Uniform::Uneven => UNEVEN,
+        Uniform::Unknown => 2000,
+    }
+}
+
+// What is told of the byte at `a` and of the next.
+fn telling(rows: &[u8], a: u32, first: u32, second: u32) -> Tally {
+    let next = std::num::wrapping_add_u32(a, 1);
+    let one = answer(told(lane_memory::told_byte(rows, a, OTHER)), first);
+    let two = answer(told(lane_memory::told_byte(rows, next, OTHER)), second);
+    one.and(two)
+}
+
+// The byte at `a` below a word.
+fn joined(rows: &[u8], a: u32, high: LaneWord) -> LaneWord {
+    let mut values = high.values;
+    let known = lane_memory::join_values(rows, a, OTHER, &mut values);
+    LaneWord {
+        values,
+        known: known && high.known,
+    }
+}
+
+// A known byte below three bytes of a known word: each byte of what they make.
+fn joining(rows: &[u8], a: u32) -> Tally {
+    let high = pattern(16);
+    let word = joined(rows, a, high);
+    let loaded = lane_memory::load_byte(rows, a, OTHER);
+    let low = lanes(word.map_unary(Binary::Byte, 0), loaded, 0);
+    let second = lanes(word.map_unary(Binary::Byte, 1), high, 0);
+    let third = lanes(word.map_unary(Binary::Byte, 2), high, 1);
+    low.and(second)
+        .and(third)
+        .and(lanes(word.map_unary(Binary::Byte, 3), high, 2))
+}
+
+// Whether the byte and a word of pattern `seed` make a known word.
+fn joined_known(rows: &[u8], a: u32, seed: u32, known: u32) -> Tally {
+    let word = joined(rows, a, pattern(seed));
+    answer(word.known as u32, known)
+}
+
+fn one_value_read(rows: &[u8]) -> Tally {
+    let stored = read_word(rows, 0xffff_fffe, 4, LaneWord::constant(0x8412_c3f7));
+    let first = telling(rows, 0xffff_fffe, 0xf7, 0xc3);
+    let last = telling(rows, 1, 0x84, wide(OTHER));
+    let joins = joining(rows, 0xffff_fffe)
+        .and(joining(rows, 2))
+        .and(joined_known(rows, 0, 17, 0));
+    stored.and(first).and(last).and(joins)
+}
+
+// One value for all lanes, up to the last address and on from the first.
+fn one_value(rows: &mut [u8]) -> Tally {
+    let new = answer(lane_memory::new_bytes(rows, 0xffff_fffe, 4), 4);
+    lane_memory::store_value(rows, 0xffff_fffe, 4, 0x8412_c3f7);
+    new.and(one_value_read(rows))
+}
+
+fn lanes_read(rows: &[u8]) -> Tally {
+    let stored = read_word(rows, 0xffff_ffff, 2, pattern(18));
+    let first = telling(rows, 0xffff_fffe, 0xf7, UNEVEN);
+    let last = telling(rows, 0, UNEVEN, 0x84);
+    let joins = joining(rows, 0xffff_ffff).and(joined_known(rows, 0, 17, 0));
+    stored.and(first).and(last).and(joins)
+}
+
+// Lanes over two bytes that had one value.
+fn lanes_over(rows: &mut [u8]) -> Tally {
+    lane_memory::store(rows, 0xffff_ffff, 2, pattern(18));
+    lanes_read(rows)
+}
+
+fn value_read(rows: &[u8]) -> Tally {
+    let stored = read_word(rows, 0xffff_ffff, 1, LaneWord::constant(0xee));
+    let both = telling(rows, 0xffff_ffff, 0xee, UNEVEN);
+    stored.and(both).and(joining(rows, 0xffff_ffff))
+}
+
+// One value over the lanes of the first of the two.
+fn value_over(rows: &mut [u8]) -> Tally {
+    lane_memory::store_value(rows, 0xffff_ffff, 1, 0x1ee);
+    value_read(rows)
+}
+
+fn unknown_read(rows: &[u8]) -> Tally {
+    let stored = read_word(rows, 0xffff_ffff, 1, pattern(19));
+    let both = telling(rows, 0xffff_ffff, UNEVEN, UNEVEN);
+    let joins = joined_known(rows, 0xffff_ffff, 16, 0).and(joined_known(rows, 0, 16, 1));
+    stored.and(both).and(joins)
+}
+
+// A byte that is not known over that value.
+fn unknown_over(rows: &mut [u8]) -> Tally {
+    lane_memory::store(rows, 0xffff_ffff, 1, pattern(19));
+    unknown_read(rows)
+}
+
+fn free_read(rows: &[u8]) -> Tally {
+    let new = answer(lane_memory::new_bytes(rows, 0xffff_fffe, 4), 4);
+    let first = telling(rows, 0xffff_fffe, wide(OTHER), wide(OTHER));
+    let last = telling(rows, 0, wide(OTHER), wide(OTHER));
+    new.and(first)
+        .and(last)
+        .and(read_word(rows, 0xffff_ffff, 1, not_written()))
+}
+
+// Every row is free again.
+fn freed(rows: &mut [u8]) -> Tally {
+    lane_memory::unmark(rows);
+    free_read(rows)
+}
+
+fn taken_read(rows: &[u8]) -> Tally {
+    let value = read_word(rows, 0xffff_ffff, 2, LaneWord::constant(0x3456));
+    let word = read_word(rows, 1, 1, pattern(20));
+    value.and(word).and(telling(rows, 0, 0x34, UNEVEN))
+}
+
+// The rows are taken with what was left in them.
+fn taken(rows: &mut [u8]) -> Tally {
+    lane_memory::store_value(rows, 0xffff_ffff, 2, 0x3456);
+    lane_memory::store(rows, 1, 1, pattern(20));
+    taken_read(rows)
+}
+
+fn by_turns(rows: &mut [u8]) -> Tally {
+    lane_memory::clear(rows);
+    one_value(rows).and(lanes_over(rows)).and(value_over(rows))
+}
+
+fn uniform(rows: &mut [u8]) -> Tally {
+    let turns = by_turns(rows);
+    turns
+        .and(unknown_over(rows))
+        .and(freed(rows))
+        .and(taken(rows))
+}
+
+fn stores(rows: &mut [u8]) {
+    print(b"words", words(rows));
+    print(b"uniform", uniform(rows));
+}
+
 // 5,000 rows and a remainder.
 fn lent() -> [u8; 1320263] {
     [0xa5; 1320263]
@@ -389,7 +540,7 @@ fn all(memory: &mut [u8])
     part(b"4 rows", memory, 1319, 4);
     part(b"200 rows", memory, 53063, 200);
     orders(b"5000 rows", memory, 5000);
-    print(b"words", words(memory));
+    stores(memory);
 }
 
 fn main() {

@@ -1,2 +1,3 @@
 -- What the code's actions mean.
 pub mod Action
+pub mod Computation

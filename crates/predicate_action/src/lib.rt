@@ -3,6 +3,7 @@ ghost use mathlib.Core.Path.{_≡_};
 ghost use Rattle.riscv32imc.specs.Arithmetic.{add};
 ghost use Rattle.predicate_semantics.specs.Meaning.{meaning};
 ghost use Rattle.predicate_action.specs.Action.{meaningOf, firstSource, secondSource};
+ghost use Rattle.predicate_action.specs.Computation.{withRegister, withNumber, computationOf};
 use riscv_decode::BType;
 use riscv_decode::IType;
 use riscv_decode::Operation;
@@ -290,5 +291,79 @@ pub fn second_source(action: Action) -> u32
             offset: _,
             width: _,
         } => rs2,
+    }
+}
+
+// What an action computes on its sources' lanes: a function of the first source and a second operand, which is the second source or one number.
+pub struct Computation {
+    pub function: Binary,
+    pub immediate: bool,
+    pub operand: u32,
+}
+
+fn with_register(function: Binary) -> Computation
+    ensures { λ r. ⌜ r ≡ withRegister function ⌝ }
+{
+    Computation {
+        function,
+        immediate: false,
+        operand: 0,
+    }
+}
+
+fn with_number(function: Binary, operand: u32) -> Computation
+    ensures { λ r. ⌜ r ≡ withNumber function operand ⌝ }
+{
+    Computation {
+        function,
+        immediate: true,
+        operand,
+    }
+}
+
+// A result, a branch's test, a jump's target or an address; 0 of x0 where there is none.
+pub fn computation_of(action: Action) -> Computation
+    ensures { λ r. ⌜ r ≡ computationOf action ⌝ }
+{
+    match action {
+        Action::Nothing => with_number(Binary::Add, 0),
+        Action::Literal { rd: _, value: _ } => with_number(Binary::Add, 0),
+        Action::Compute {
+            rd: _,
+            function,
+            rs1: _,
+            rs2: _,
+        } => with_register(function),
+        Action::ComputeImmediate {
+            rd: _,
+            function,
+            rs1: _,
+            immediate,
+        } => with_number(function, immediate),
+        Action::Jump { rd: _, target: _ } => with_number(Binary::Add, 0),
+        Action::JumpTo {
+            rd: _,
+            rs1: _,
+            offset,
+        } => with_number(Binary::Target, offset),
+        Action::Branch {
+            test,
+            rs1: _,
+            rs2: _,
+            target: _,
+        } => with_register(test),
+        Action::Load {
+            rd: _,
+            rs1: _,
+            offset,
+            width: _,
+            extension: _,
+        } => with_number(Binary::Add, offset),
+        Action::Store {
+            rs1: _,
+            rs2: _,
+            offset,
+            width: _,
+        } => with_number(Binary::Add, offset),
     }
 }

@@ -1,4 +1,4 @@
--- From the run over cleared rows to its whole outcome: the result read off the code's own outputs, and demand 3 over it. Assumes nothing.
+-- From the run over rows without a mark to its whole outcome: the result read off the code's own outputs, and demand 3 over it. Assumes nothing.
 use mathlib.Core.Path.{_≡_, refl, sym, ap, _∙_, subst}
 use mathlib.Core.List.{List, []}
 use mathlib.Core.Option.{some}
@@ -21,9 +21,9 @@ use Rattle.predicate_semantics.specs.RecordRules.{Accepted}
 use Rattle.predicate_semantics.proofs.Guarantee.{guarantee}
 use Rattle.predicate_semantics.proofs.RecordRules as Rules
 use Rattle.predicate_semantics.proofs.TraceLaws.{trace-back, standing-trace-fits, standing-completed}
-use Rattle.lane_memory.specs.Rows.{rowCount, cleared}
+use Rattle.lane_memory.specs.Rows.{rowCount, cleared, unmarked}
 use Rattle.lane_memory.specs.Holds.{Holds}
-use Rattle.lane_memory.proofs.Laws.{holds-clear, cleared-twice}
+use Rattle.lane_memory.proofs.Laws.{unmarked-holds, cleared-unmarked}
 use Rattle.lane_access.specs.Answers.{refusalOf}
 use Rattle.riscv32imc_predicate.specs.declared.PredicateAnswer.{PredicateAnswer}
 use Rattle.riscv32imc_predicate.specs.declared.PredicateAnswer.the-variants as answer
@@ -60,15 +60,15 @@ module _ (image : List ℕ) (symbols : Rv32SymbolLayout) (n entries : ℕ) (lent
   result-of answer.Accepted t q (result, h) = rw h (read-back result (q ∙ h))
   result-of (answer.Refused x) t q h = sym h
 
--- cleared rows hold nothing
-pub holds-none : (rows rows₁ : List ℕ) → rows₁ ≡ cleared rows → Holds rows₁ (rowCount rows₁) []
-holds-none rows rows₁ c = rw c (subst (λ (k : ℕ). Holds (cleared rows) k []) (sym (holds-clear rows .rows)) (holds-clear rows))
+-- rows without a mark hold nothing
+pub holds-none : (rows rows₁ : List ℕ) → rows₁ ≡ unmarked rows → Holds rows₁ (rowCount rows₁) []
+holds-none rows rows₁ c = rw c (subst (λ (k : ℕ). Holds (unmarked rows) k []) (sym (unmarked-holds rows .rows)) (unmarked-holds rows))
 
 module _ (image : List ℕ) (symbols : Rv32SymbolLayout) (rows trace : List ℕ) where
-  same-count : rowCount (cleared rows) ≡ rowCount rows
-  same-count = holds-clear rows .rows
+  same-count : rowCount (unmarked rows) ≡ rowCount rows
+  same-count = unmarked-holds rows .rows
 
-  module _ (r : PredicateRun) (rows₁ rows₂ rows₃ trace′ : List ℕ) (c : rows₁ ≡ cleared rows) (s : Runs image symbols rows₁ trace r rows₂ trace′) where
+  module _ (r : PredicateRun) (rows₁ rows₂ rows₃ trace′ : List ℕ) (c : rows₁ ≡ unmarked rows) (s : Runs image symbols rows₁ trace r rows₂ trace′) where
     same-run : rowCount rows₁ ≡ rowCount rows
     same-run = ap rowCount c ∙ same-count
 
@@ -94,6 +94,6 @@ module _ (image : List ℕ) (symbols : Rv32SymbolLayout) (rows trace : List ℕ)
       numbers = tells .numbers;
       found = tells .found;
       entries = entries;
-      zero = z ∙ s .same-rows ∙ ap cleared c ∙ cleared-twice rows;
+      zero = z ∙ s .same-rows ∙ ap cleared c ∙ cleared-unmarked rows;
       guarantee = λ a h. guarantee image symbols (rowCount rows) (entryCount trace) a (sym result ∙ h);
     }

@@ -17,6 +17,7 @@ use Rattle.predicate_semantics.specs.Lane.{LaneState, memoryOf, fetch, look, st
 use Rattle.predicate_semantics.specs.Standing.{standingCore, standing, setup}
 use Rattle.predicate_semantics.proofs.Laws.{run-out, run-refused}
 use Rattle.predicate_action.specs.Action.{meaningOf, firstSource, secondSource}
+use Rattle.predicate_action.specs.Computation.{computationOf}
 use Rattle.lane_access.specs.declared.Rv32Error.{Rv32Error}
 use Rattle.lane_access.specs.declared.Rv32Error.the-variants as error
 use Rattle.lane_access.specs.Seen.{seen}
@@ -65,9 +66,9 @@ module _ (image rows : List ℕ) (place : Place) (r : Progress) where
       pub comes-next : (f : Fetched) → r .more ≡ true
           → ((steps : ℕ) → passed f ≡ fetch (inputs 6 250) standingCore (seen image rows) steps (place .pc))
           → r .word ≡ f .word → r .length ≡ f .length → meaningOf (r .action) ≡ meaning (f .operation) (place .pc)
-          → r .rs1 ≡ firstSource (r .action) → r .rs2 ≡ secondSource (r .action) → Readies image rows place r
+          → r .rs1 ≡ firstSource (r .action) → r .rs2 ≡ secondSource (r .action) → r .computation ≡ computationOf (r .action) → Readies image rows place r
       unfolding standing setup
-      comes-next f m q w z d x y symbols n lent s a b c =
+      comes-next f m q w z d x y k symbols n lent s a b c =
           subst (λ (k : Bool). Comes image symbols n lent k r s) (sym m) (record {
             moving = off-stop s a;
             below = omega (arith, b, below);
@@ -78,4 +79,5 @@ module _ (image rows : List ℕ) (place : Place) (r : Progress) where
             same-action = d ∙ ap (meaning (f .operation)) a;
             first = x;
             second = y;
+            computes = k;
           })

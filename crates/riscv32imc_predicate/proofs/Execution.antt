@@ -1,15 +1,17 @@
 -- What each form of an operation comes to, where the code is given its sources' words. Assumes nothing.
 use mathlib.Core.List.{List}
 use mathlib.Core.Path.{_≡_, refl, sym, ap, _∙_}
-use Prim.Native.Nat.{ℕ, _+_}
+use Prim.Native.Nat.{ℕ, zero, suc, _+_, _%_, _^_, _≤_}
 use native.Mathlib.Omega.{arith}
 use lib.Dec.{eqb, leb, ltb}
 use lib.ListN.{length}
 use Rattle.riscv32imc.specs.Arithmetic.{add, target}
 use Rattle.riscv32imc.specs.Constants.{imageBase}
 use Rattle.lane_word.specs.declared.LaneWord.{LaneWord}
-use Rattle.lane_word.specs.Word.{constant, unary, binary, inputs}
+use Rattle.lane_word.specs.declared.Uniform.{Uniform}
+use Rattle.lane_word.specs.Word.{constant, unary, binary, inputs, uniformOf}
 use Rattle.lane_word.proofs.Tab.{length-inputs}
+use Rattle.lane_word.proofs.Told.{binary-constant}
 use Rattle.predicate_semantics.specs.Choice.{choose}
 use Rattle.predicate_semantics.specs.Meaning as meaning
 use Rattle.predicate_semantics.specs.Program.{Program, imageEnd}
@@ -17,24 +19,39 @@ use Rattle.predicate_semantics.specs.State.{Effect, goes, sets, stores}
 use Rattle.predicate_semantics.specs.Memory.{write}
 use Rattle.predicate_semantics.specs.Refusal.{Tested, passed, refused, _>>=_, require}
 use Rattle.predicate_semantics.specs.Lane.{LaneState, Setup, lanes, reg, operand, inside, agreed, access, execute}
-use Rattle.lane_memory.specs.Rows.{rowCount, newBytes}
-use Rattle.lane_access.specs.declared.Agreed.{Agreed}
+use Rattle.lane_memory.specs.declared.Found.{Found}
+use Rattle.lane_memory.specs.declared.Found.the-variants.{At, Free, Full}
+use Rattle.lane_memory.specs.Rows.{rowCount, findRow, newAt, newBytes}
 use Rattle.lane_access.specs.declared.Verdict.{Verdict}
-use Rattle.lane_access.specs.declared.Accessed.{Accessed}
 use Rattle.lane_access.specs.Seen.{seen}
-use Rattle.lane_access.specs.Answers.{agreedOf, verdictOf, loadedAs, accessedOf}
-use Rattle.lane_access.proofs.Laws.{inside-fits}
+use Rattle.lane_access.specs.Answers.{verdictOf, testedAs}
+use Rattle.lane_access.proofs.Laws.{inside-fits, agreed-is}
 use Rattle.riscv32imc_predicate.specs.Changes.{Given, roomFor}
 
--- a test is what the code matched its answer with: a uniform test of a computed word, a verdict, a load
-pub agreed-is : (role : ℕ) {r v : Agreed} {w x : LaneWord} → r ≡ v → agreedOf r ≡ agreed (inputs 6 250) role w → w ≡ x → agreedOf v ≡ agreed (inputs 6 250) role x
-agreed-is role e h k = sym (ap agreedOf e) ∙ h ∙ ap (agreed (inputs 6 250) role) k
-
+-- a verdict is what the code matched it with
 pub verdict-is : {r v : Verdict} {t : Tested (Unit {0})} → r ≡ v → verdictOf r ≡ t → t ≡ verdictOf v
 verdict-is e h = sym h ∙ ap verdictOf e
 
-pub loaded-is : (r : Accessed) {v : Verdict} {t : Tested LaneWord} → r .verdict ≡ v → accessedOf r ≡ t → t ≡ loadedAs v (r .word)
-loaded-is r e h = sym h ∙ ap (λ (m : Verdict). loadedAs m (r .word)) e
+-- a uniform test of a computed word, by what is told of it
+pub tested-both : (role : ℕ) (u : Uniform) (f : ℕ → ℕ → ℕ) (left right : LaneWord) → u ≡ uniformOf (binary f left right)
+    → testedAs role u ≡ agreed (inputs 6 250) role (binary f left right)
+tested-both role u f left right h = ap (testedAs role) h ∙ sym (agreed-is role (binary f left right))
+
+pub tested-number : (role : ℕ) (u : Uniform) (f : ℕ → ℕ → ℕ) (n : ℕ) (left : LaneWord) → length (left .values) ≡ 250
+    → u ≡ uniformOf (binary f left (constant 250 n)) → testedAs role u ≡ agreed (inputs 6 250) role (unary (λ v. f v n) left)
+tested-number role u f n left e h =
+    tested-both role u f left (constant 250 n) h ∙ ap (agreed (inputs 6 250) role) (binary-constant f 250 n left e)
+
+-- a store takes at most a row for each of its bytes
+new-one : (f : Found) → newAt f ≤ 1
+new-one (At s) = omega arith
+new-one (Free s) = omega arith
+new-one Full = omega arith
+
+pub new-most : (rows : List ℕ) (n a : ℕ) → newBytes rows n a ≤ n
+unfolding newBytes
+new-most rows zero a = omega arith
+new-most rows (suc n) a = omega (arith, new-most rows n a, new-one (findRow rows ((a + n) % 2 ^ 32)))
 
 module _ {p : Program} {l : Setup} {s : LaneState} {image rows : List ℕ} {written : ℕ} (g : Given p l s image rows written) (next : ℕ) where
   lane-count : lanes p l ≡ 250

@@ -6,7 +6,7 @@ use Prim.Native.Nat.{ℕ, zero, suc, _+_, _-_, _*_, _/_, _%_, _^_, _≤_, _<_}
 use native.Mathlib.Nat.{mod-eq-of-lt}
 use native.Mathlib.Omega.{arith}
 use lib.Dec.{ltb, eqb}
-use lib.ListN.{length, length-append, take, drop}
+use lib.ListN.{length, length-append, drop}
 use lib.Seq.{sets, length-sets}
 use Rattle.little_endian.specs.Lent.{over}
 use Rattle.little_endian.specs.Pack.{pack, packs}
@@ -38,8 +38,9 @@ use Rattle.lane_memory.proofs.Laws.{holds-new}
 use Rattle.lane_access.specs.Seen.{seen, Above}
 use Rattle.lane_access.proofs.Laws.{seen-holds}
 use Rattle.riscv32imc_predicate.specs.declared.Place.{Place}
+use Rattle.riscv32imc_predicate.specs.declared.Recorded.{Recorded}
 use Rattle.riscv32imc_predicate.specs.Changes.{Given}
-use Rattle.riscv32imc_predicate.specs.Tracking.{entryCount, Tracks, Keeps, PlacedAfter, rest}
+use Rattle.riscv32imc_predicate.specs.Tracking.{entryCount, Tracks, movedTo, Located, Keeps, rest}
 
 -- ---- the trace's bytes
 
@@ -121,11 +122,12 @@ module _ (image : List ℕ) (symbols : Rv32SymbolLayout) (n : ℕ) (lent : List 
     pub kept : Kept p l s
     kept = kept-reached p l (s .steps) s (t .reached)
 
-    pub same-entries : entryCount trace ≡ entryCount lent
+    pub same-length : length trace ≡ length lent
     unfolding setup
-    same-entries =
-        ap (λ (x : ℕ). x / 13)
-        (ap length (t .traced) ∙ length-over (s .trace) lent (omega (arith, kept .traced .counted, kept .traced .entered)))
+    same-length = ap length (t .traced) ∙ length-over (s .trace) lent (omega (arith, kept .traced .counted, kept .traced .entered))
+
+    pub same-entries : entryCount trace ≡ entryCount lent
+    same-entries = ap (λ (x : ℕ). x / 13) same-length
 
   -- ---- a step
 
@@ -145,6 +147,13 @@ module _ (image : List ℕ) (symbols : Rv32SymbolLayout) (n : ℕ) (lent : List 
       go (refused r) = refl
 
   module _ {place : Place} {rows trace : List ℕ} {s : LaneState} (t : Tracks image symbols n lent place rows trace s) where
+    -- the locations after a store, of which no run has more than steps
+    pub located-after : (old new : Recorded) (address width : ℕ) → Located old (place .pc) address width (symbols .«event_count») new → Keeps old (s .locations)
+        → Keeps new (recorded (symbols .«event_count») (s .pc) address width (s .locations))
+    located-after old new address width h k =
+        subst (λ (x : ℕ). Keeps new (recorded (symbols .«event_count») x address width (s .locations))) (t .same-pc)
+        (h (s .locations) (omega (arith, kept t .located, t .bounded)) k)
+
     module _ (moving : eqb (s .pc) stop ≡ false) (below : s .steps < maxSteps) where
       fuel : maxSteps - s .steps ≡ suc (maxSteps - suc (s .steps))
       fuel = omega (arith, below)
@@ -177,13 +186,13 @@ module _ (image : List ℕ) (symbols : Rv32SymbolLayout) (n : ℕ) (lent : List 
           unfolding advance
           next-memory = ap (λ (x : LaneState). x .memory) e
 
-          next-locations : u .locations ≡ recorded (symbols .«event_count») (s .pc) address width (s .locations)
+          pub next-locations : u .locations ≡ recorded (symbols .«event_count») (s .pc) address width (s .locations)
           unfolding advance
           next-locations = ap (λ (x : LaneState). x .locations) e
 
           pub follows :
               {place′ : Place} {rows′ trace′ : List ℕ}
-              → PlacedAfter place next address width (symbols .«event_count») new place′
+              → place′ ≡ movedTo place next new
               → new ≡ newBytes rows width address
               → address + width ≤ 2 ^ 32
               → Holds rows′ n (write (s .memory) width address value)
@@ -197,23 +206,16 @@ module _ (image : List ℕ) (symbols : Rv32SymbolLayout) (n : ℕ) (lent : List 
               → Tracks image symbols n lent place′ rows′ trace′ u
           unfolding setup advance
           follows {place′} {rows′} {trace′} a fresh fits h up entry =
-              let ls : List ℕ = recorded (symbols .«event_count») (s .pc) address width (s .locations) in
-              let k : length (s .locations) ≤ s .steps = kept t .located in
               let fit : place .steps * 13 + 13 ≤ length trace = omega (arith, same-entries t, next-kept .traced .entered, next-steps, t .same-steps) in
               let size : length (write (s .memory) width address value) ≡ length (s .memory) + newBytes rows width address = holds-new (t .holds) width address value fits in
               let few : length (write (s .memory) width address value) < 2097152 = subst (λ (x : List Written). length x < 2097152) next-memory (room p l (next-kept .fits) (next-kept .stored .distinct)) in
-              let lay : Keeps place′ ls
-              = subst (λ (x : ℕ). Keeps place′ (recorded (symbols .«event_count») x address width (s .locations))) (t .same-pc)
-              (a .keeps (s .locations) (omega (arith, k, below)) (t .same-recorded, t .first-locations)) in
               record {
                 reached = next-reached;
-                same-pc = rw e (a .same-pc);
-                same-steps = rw e (a .one-more ∙ rw (t .same-steps) (mod-eq-of-lt (omega (arith, below)) ∙ omega arith));
+                same-pc = rw (a, e) refl;
+                same-steps = rw (a, e) (rw (t .same-steps) (mod-eq-of-lt (omega (arith, below)) ∙ omega arith));
                 bounded = omega (arith, next-steps, below);
                 holds = rw next-memory h;
                 above = rw next-memory up;
-                same-written = rw next-memory (a .more-written ∙ rw (t .same-written, fresh) (mod-eq-of-lt (omega (arith, size, few)) ∙ sym size));
-                same-recorded = rw next-locations (lay .0);
-                first-locations = rw next-locations (lay .1);
+                same-written = rw (a, next-memory) (rw (t .same-written, fresh) (mod-eq-of-lt (omega (arith, size, few)) ∙ sym size));
                 traced = rw e (entry ∙ entry-fits trace (place .steps * 13) (place .pc) (f .word) (f .length) next fit ∙ rw (t .traced, t .same-steps, t .same-pc) (entry-over (s .trace) _ lent (s .steps) (kept t .traced .counted) (omega (arith, next-kept .traced .entered, next-steps))));
               }

@@ -29,9 +29,9 @@ use Rattle.predicate_semantics.proofs.Laws.{run-stop}
 use Rattle.predicate_semantics.proofs.RecordRules.{Kept, kept-start, events-located}
 use Rattle.predicate_semantics.proofs.Reached.{no-pass}
 use Rattle.predicate_semantics.specs.Trace.{traceBytes}
-use Rattle.lane_memory.specs.Rows.{rowCount, storeBytes, cleared}
+use Rattle.lane_memory.specs.Rows.{rowCount, storeValues, cleared}
 use Rattle.lane_memory.specs.Holds.{Holds}
-use Rattle.lane_memory.proofs.Laws.{holds-store}
+use Rattle.lane_memory.proofs.Laws.{holds-store-value}
 use Rattle.lane_access.specs.declared.Rv32Error.{Rv32Error}
 use Rattle.lane_access.specs.declared.Verdict.{Verdict}
 use Rattle.lane_access.specs.declared.Verdict.the-variants as verdict
@@ -149,7 +149,7 @@ module _ (image : List ℕ) (symbols : Rv32SymbolLayout) (n : ℕ) (lent : List 
 
     -- the stop word is stored
     pub begin-tracks : (rows : List ℕ) → Holds rows n []
-        → Tracks image symbols n lent (startPlace (symbols .entry)) (storeBytes rows 4 stop (constant 250 stopWord)) lent
+        → Tracks image symbols n lent (startPlace (symbols .entry)) (storeValues rows 4 stop stopWord) lent
         (begin (program image symbols n lent) (space image symbols n lent))
     unfolding begin standing setup lanes reached after _>>=_
     begin-tracks rows k = record {
@@ -157,11 +157,9 @@ module _ (image : List ℕ) (symbols : Rv32SymbolLayout) (n : ℕ) (lent : List 
       same-pc = refl;
       same-steps = refl;
       bounded = omega arith;
-      holds = rw (length-inputs 6 250) (holds-store k 4 stop (constant 250 stopWord) (word-size stopWord) (omega arith) (rw (length-inputs 6 250) at (kept-first .stored .most)));
+      holds = rw (length-inputs 6 250) (holds-store-value k 4 stop stopWord (omega arith) (rw (length-inputs 6 250) at (kept-first .stored .most)));
       above = above-write (imageBase + length image) 4 stop (constant (length (inputs 6 250)) stopWord) [] (omega (arith, kept-first .fits .1)) tt;
       same-written = four (constant (length (inputs 6 250)) stopWord);
-      same-recorded = refl;
-      first-locations = refl;
       traced = refl;
     }
 
@@ -192,7 +190,7 @@ events-low size symbols n h =
 module _ (image : List ℕ) (symbols : Rv32SymbolLayout) (rows trace : List ℕ) where
   -- the loop's start
   pub begins : Holds rows (rowCount rows) [] → startTested (length image) symbols (rowCount rows) ≡ passed tt
-      → (rows′ : List ℕ) → rows′ ≡ storeBytes rows 4 stop (constant 250 stopWord)
+      → (rows′ : List ℕ) → rows′ ≡ storeValues rows 4 stop stopWord
       → (first : Progress) (place : Place) → first .place ≡ place → place ≡ startPlace (symbols .entry) → Readies image rows′ place first
       → Begins image symbols rows′ trace first × (rowCount rows′ ≡ rowCount rows)
   begins h k rows′ e first place o q r =

@@ -4,7 +4,7 @@ use mathlib.Core.List.{List, []}
 use mathlib.Core.Path.{_≡_}
 use Prim.Native.Nat.{ℕ, _+_}
 use lib.Dec.{eqb, leb}
-use lib.ListN.{length, take}
+use lib.ListN.{length}
 use Rattle.little_endian.specs.Lent.{over}
 use Rattle.lane_word.specs.declared.LaneWord.{LaneWord}
 use Rattle.lane_word.specs.Word.{inputs}
@@ -21,9 +21,10 @@ use Rattle.lane_access.specs.declared.Verdict.{Verdict}
 use Rattle.lane_access.specs.declared.Verdict.the-variants as verdict
 use Rattle.lane_access.specs.Seen.{seen}
 use Rattle.lane_access.specs.Answers.{refusalOf}
-use Rattle.riscv32imc_predicate.specs.declared.Place.{Place}
+use Rattle.riscv32imc_predicate.specs.declared.Recorded.{Recorded}
 use Rattle.riscv32imc_predicate.specs.declared.finish.EventsReading.{EventsReading}
 use Rattle.riscv32imc_predicate.specs.declared.finish.Finished.{Finished}
+use Rattle.riscv32imc_predicate.specs.Tracking.{Keeps}
 
 -- an event's three numbers from an address, with its location
 unfoldable pub eventAt : LaneBytes → ℕ → ℕ → Tested CompiledMmioEvent
@@ -67,21 +68,19 @@ finishEvents p l s value count = do
   es ← events p l (memoryOf p l s) 0 [] (s .locations)
   passed (record { returnValue = value; steps = s .steps; trace = s .trace; events = es })
 
-abbrev pub FinishesEvents : List ℕ → ℕ → List ℕ → Place → ℕ → ℕ → Finished → Type 0
-FinishesEvents image from rows place value count r =
+abbrev pub FinishesEvents : List ℕ → ℕ → List ℕ → Recorded → ℕ → ℕ → Finished → Type 0
+FinishesEvents image from rows kept value count r =
     (p : Program) (l : Setup) (s : LaneState) → l .inputs ≡ inputs 6 250 → p .symbols .events ≡ from
     → memoryOf p l s ≡ seen image rows
-    → place .recorded ≡ length (s .locations)
-    → take (length (s .locations)) (place .locations) ≡ take 32 (s .locations)
+    → Keeps kept (s .locations)
     → Answers (r .verdict) (r .«return_value») (r .events) s (finishEvents p l s value count)
 
 -- what the code answers is what the semantics does in every state that it was given: memory as image and rows show it, the
 -- number of locations and the first of them, and x10
-abbrev pub Finishes : List ℕ → Rv32SymbolLayout → List ℕ → Place → LaneWord → Finished → Type 0
-Finishes image symbols rows place x10 r =
+abbrev pub Finishes : List ℕ → Rv32SymbolLayout → List ℕ → Recorded → LaneWord → Finished → Type 0
+Finishes image symbols rows kept x10 r =
     (p : Program) (l : Setup) (s : LaneState) → l .inputs ≡ inputs 6 250 → p .symbols ≡ symbols
     → memoryOf p l s ≡ seen image rows
-    → place .recorded ≡ length (s .locations)
-    → take (length (s .locations)) (place .locations) ≡ take 32 (s .locations)
+    → Keeps kept (s .locations)
     → reg p l s 10 ≡ x10
     → Answers (r .verdict) (r .«return_value») (r .events) s (finish p l s)

@@ -18,6 +18,7 @@ use Rattle.lane_memory.specs.Rows.{rowCount, cleared}
 use Rattle.lane_access.specs.declared.Rv32Error.{Rv32Error}
 use Rattle.lane_access.specs.Answers.{refusalOf}
 use Rattle.riscv32imc_predicate.specs.declared.Place.{Place}
+use Rattle.riscv32imc_predicate.specs.declared.Recorded.{Recorded}
 use Rattle.riscv32imc_predicate.specs.declared.finish.Finished.{Finished}
 use Rattle.riscv32imc_predicate.specs.declared.PredicateAnswer.{PredicateAnswer}
 use Rattle.riscv32imc_predicate.specs.declared.PredicateAnswer.the-variants as answer
@@ -68,11 +69,11 @@ pub record Tells (image : List ℕ) (symbols : Rv32SymbolLayout) (n entries : �
   pub numbers : r .execution ≡ executionIn image symbols n entries s t
   pub found : r .events ≡ eventsIn t
 
--- the answer at stop, told for every state there that a place is of
-abbrev pub Answered : Place → Finished → PredicateRun → Type 0
-Answered place finished r =
+-- the answer at stop, told for every state there that a place and a count of events are of
+abbrev pub Answered : Place → Recorded → Finished → PredicateRun → Type 0
+Answered place kept finished r =
     (image : List ℕ) (symbols : Rv32SymbolLayout) (n entries : ℕ) (s : LaneState)
-    → place .steps ≡ s .steps → place .steps ≤ 1000000 → place .written ≡ length (s .memory) → place .recorded ≡ length (s .locations)
+    → place .steps ≡ s .steps → place .steps ≤ 1000000 → place .written ≡ length (s .memory) → kept .count ≡ length (s .locations)
     → Answers (finished .verdict) (finished .«return_value») (finished .events) s (finish (standing image symbols) (setup n entries) s)
     → Tells image symbols n entries s (finish (standing image symbols) (setup n entries) s) r
 

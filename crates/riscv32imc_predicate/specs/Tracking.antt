@@ -6,34 +6,46 @@ use Prim.Native.Nat.{ℕ, suc, _+_, _-_, _*_, _/_, _%_, _^_, _≤_, _<_}
 use lib.Dec.{eqb, leb, ltb}
 use lib.ListN.{length, take, replicate}
 use Rattle.little_endian.specs.Lent.{over}
+use Rattle.riscv32imc.specs.Arithmetic.{add}
 use Rattle.riscv32imc.specs.Constants.{imageBase, maxImageBytes, maxSteps}
 use Rattle.riscv_decode.specs.declared.Fetched.{Fetched}
 use Rattle.lane_word.specs.declared.LaneWord.{LaneWord}
+use Rattle.lane_word.specs.declared.Uniform.{Uniform}
 use Rattle.lane_word.specs.Word.{unknown, constant, domain, inputs}
 use Rattle.predicate_semantics.specs.declared.Rv32SymbolLayout.{Rv32SymbolLayout}
 use Rattle.predicate_semantics.specs.Meaning.{meaning}
 use Rattle.predicate_semantics.specs.Program.{Program, stop, stackPointer, placed}
 use Rattle.predicate_semantics.specs.State.{fill, atStart, assign, recorded}
+use Rattle.predicate_semantics.specs.Memory.{LaneBytes}
 use Rattle.predicate_semantics.specs.Refusal.{Tested, passed, refused, _>>=_, require}
-use Rattle.predicate_semantics.specs.Lane.{LaneState, Setup, memoryOf, reg, fetch, run, begin}
+use Rattle.predicate_semantics.specs.Lane.{LaneState, Setup, memoryOf, reg, fetch, execute, run, begin}
 use Rattle.predicate_semantics.specs.Lane as Lane
 use Rattle.predicate_semantics.specs.Standing.{standing, setup}
 use Rattle.predicate_semantics.specs.Trace.{traceBytes, putEntry}
 use Rattle.predicate_action.specs.Action.{meaningOf, firstSource, secondSource}
-use Rattle.lane_memory.specs.Rows.{rowCount, storeBytes, newBytes}
+use Rattle.predicate_action.specs.Computation.{computationOf, computed}
+use Rattle.lane_memory.specs.Rows.{rowCount}
 use Rattle.lane_memory.specs.Holds.{Holds}
 use Rattle.lane_access.specs.Seen.{seen, Above}
+use Rattle.lane_access.specs.declared.Rv32Error.{Rv32Error}
 use Rattle.lane_access.specs.Answers.{refusalOf}
 use Rattle.riscv32imc_predicate.specs.declared.Place.{Place}
+use Rattle.riscv32imc_predicate.specs.declared.Recorded.{Recorded}
 use Rattle.riscv32imc_predicate.specs.declared.Ending.{Ending}
 use Rattle.riscv32imc_predicate.specs.declared.Ending.the-variants as ending
 use Rattle.riscv32imc_predicate.specs.declared.Progress.{Progress}
-use Rattle.riscv32imc_predicate.specs.declared.Effect.{Effect}
+use Rattle.riscv32imc_predicate.specs.declared.Change.{Change}
+use Rattle.riscv32imc_predicate.specs.declared.Change.the-variants as change
+use Rattle.riscv32imc_predicate.specs.Changes.{changeOf, lastTested, Given, Sources}
 use Rattle.riscv32imc_predicate.specs.declared.Reached.{Reached}
 
 -- "whole entries (13 bytes, as a 03 body)"
 abbrev pub entryCount : List ℕ → ℕ
 entryCount trace = length trace / 13
+
+-- "Keep the first 32 and count the others."
+abbrev pub Keeps : Recorded → List ℕ → Type 0
+Keeps kept ls = (kept .count ≡ length ls) × (take (length ls) (kept .locations) ≡ take 32 ls)
 
 -- a run of an image with its symbols, over n lent rows and a lent trace
 module _ (image : List ℕ) (symbols : Rv32SymbolLayout) (n : ℕ) (lent : List ℕ) where
@@ -56,9 +68,6 @@ module _ (image : List ℕ) (symbols : Rv32SymbolLayout) (n : ℕ) (lent : List 
     pub holds : Holds rows n (s .memory)
     pub above : Above (imageBase + length image) (s .memory)
     pub same-written : place .written ≡ length (s .memory)
-    pub same-recorded : place .recorded ≡ length (s .locations)
-    -- "Keep the first 32 and count the others."
-    pub first-locations : take (length (s .locations)) (place .locations) ≡ take 32 (s .locations)
     pub traced : trace ≡ over (traceBytes (s .trace)) lent
 
   -- a fetched instruction, with the run short of stop and of the bound
@@ -72,6 +81,7 @@ module _ (image : List ℕ) (symbols : Rv32SymbolLayout) (n : ℕ) (lent : List 
     pub same-action : meaningOf (progress .action) ≡ meaning (instruction .operation) (s .pc)
     pub first : progress .rs1 ≡ firstSource (progress .action)
     pub second : progress .rs2 ≡ secondSource (progress .action)
+    pub computes : progress .computation ≡ computationOf (progress .action)
 
   -- how the run ends at a state
   abbrev pub Ends : Ending → LaneState → Type 0
@@ -87,18 +97,20 @@ module _ (image : List ℕ) (symbols : Rv32SymbolLayout) (n : ℕ) (lent : List 
   Ready progress s = Comes (progress .more) progress s
 
   -- a step from a state leads to another, from which the rest of the run is the same; a refused step stays
-  pub record Stepped (s : LaneState) (r : Effect) (rows trace : List ℕ) : Type 0 where
+  pub record Stepped (s : LaneState) (rd : ℕ) (value : LaneWord) (kept : Recorded) (progress : Progress) (rows trace : List ℕ) : Type 0 where
     pub state : LaneState
-    pub tracks : Tracks (r .progress .place) rows trace state
-    pub ready : Ready (r .progress) state
-    pub sets : state .registers ≡ assign (s .registers) (r .rd) (r .value)
+    pub tracks : Tracks (progress .place) rows trace state
+    pub ready : Ready progress state
+    pub keeps : Keeps kept (state .locations)
+    pub sets : state .registers ≡ assign (s .registers) rd value
     pub same-rest : rest s ≡ rest state
-    pub later : r .progress .more ≡ true → state .steps ≡ suc (s .steps)
+    pub later : progress .more ≡ true → state .steps ≡ suc (s .steps)
 
   -- the end of the loop
   pub record Arrives (r : Reached) (rows trace : List ℕ) : Type 0 where
     pub state : LaneState
     pub tracks : Tracks (r .progress .place) rows trace state
+    pub keeps : Keeps (r .recorded) (state .locations)
     pub ends : Ends (r .progress .ending) state
     pub return-word : r .x10 ≡ reg program space state 10
     pub same-rest : rest (begin program space) ≡ rest state
@@ -111,27 +123,16 @@ movedTo place next new = record {
   pc = next;
   steps = (place .steps + 1) % 2 ^ 32;
   written = (place .written + new) % 2 ^ 32;
-  recorded = place .recorded;
-  locations = place .locations;
 }
 
--- "Keep the first 32 and count the others."
-abbrev pub Keeps : Place → List ℕ → Type 0
-Keeps place ls = (place .recorded ≡ length ls) × (take (length ls) (place .locations) ≡ take 32 ls)
+-- a program counter is added to the locations
+abbrev pub Added : Recorded → ℕ → Recorded → Type 0
+Added kept pc r = (ls : List ℕ) → length ls + 1 < 2 ^ 32 → Keeps kept ls → Keeps r (ls ++ pc ∷ [])
 
--- the place's program counter is added to its locations
-pub record Located (place r : Place) : Type 0 where
-  pub same-pc : r .pc ≡ place .pc
-  pub same-steps : r .steps ≡ place .steps
-  pub same-written : r .written ≡ place .written
-  pub keeps : (ls : List ℕ) → length ls + 1 < 2 ^ 32 → Keeps place ls → Keeps r (ls ++ place .pc ∷ [])
-
--- the place that a completed step leads to: the program counter and the counts, which are words, and the locations
-pub record PlacedAfter (place : Place) (next address width eventCount new : ℕ) (r : Place) : Type 0 where
-  pub same-pc : r .pc ≡ next
-  pub one-more : r .steps ≡ (place .steps + 1) % 2 ^ 32
-  pub more-written : r .written ≡ (place .written + new) % 2 ^ 32
-  pub keeps : (ls : List ℕ) → length ls + 1 < 2 ^ 32 → Keeps place ls → Keeps r (recorded eventCount (place .pc) address width ls)
+-- the locations after a store
+abbrev pub Located : Recorded → ℕ → ℕ → ℕ → ℕ → Recorded → Type 0
+Located kept pc address width eventCount r =
+    (ls : List ℕ) → length ls + 1 < 2 ^ 32 → Keeps kept ls → Keeps r (recorded eventCount pc address width ls)
 
 -- what comes at a place, in every state that is there
 abbrev pub Readies : List ℕ → List ℕ → Place → Progress → Type 0
@@ -140,34 +141,43 @@ Readies image rows place r =
     → place .pc ≡ s .pc → place .steps ≡ s .steps → memoryOf (program image symbols n lent) (space image symbols n lent) s ≡ seen image rows
     → Ready image symbols n lent r s
 
--- a word's bytes are stored, some of them at new addresses
-pub record Stores (rows : List ℕ) (address width : ℕ) (value : LaneWord) (new : ℕ) (rows′ : List ℕ) : Type 0 where
-  pub size : length (value .values) ≡ 250
-  pub fresh : new ≡ newBytes rows width address
-  pub stored : rows′ ≡ storeBytes rows width address value
+-- the last test leaves a change or refuses it
+abbrev pub LastTested : Change → ℕ → ℕ → Change → Type 0
+LastTested x steps entries y = (m : LaneBytes) (w r : LaneWord) → changeOf m w r y ≡ lastTested (changeOf m w r x) steps entries
+
+-- a fetched step, in every state that the code is given, comes to the semantics' operation and the last test
+abbrev pub Decides : List ℕ → List ℕ → Progress → Uniform → ℕ → Change → Type 0
+Decides image rows progress tested entries x =
+    (p : Program) (l : Setup) (s : LaneState) → Given p l s image rows (progress .place .written)
+    → (left right : LaneWord) → Sources p l s (progress .action) left right tested
+    → changeOf (seen image rows) (computed (computationOf (progress .action)) left right) right x
+    ≡ lastTested (execute p l s (add (progress .place .pc) (progress .length)) (meaningOf (progress .action))) (progress .place .steps) entries
 
 -- a step's entry in the trace, and the place after it
-pub record Completes (image : List ℕ) (eventCount : ℕ) (rows : List ℕ) (progress : Progress) (next address width new : ℕ)
-    (trace : List ℕ) (r : Progress) (trace′ : List ℕ) : Type 0 where
+pub record Completes (image rows : List ℕ) (progress : Progress) (next new : ℕ) (trace : List ℕ) (r : Progress) (trace′ : List ℕ) : Type 0 where
   pub entry : trace′ ≡ putEntry trace (progress .place .steps * 13) (record {
     «program_counter» = progress .place .pc;
     «instruction_word» = progress .word;
     «instruction_bytes» = progress .length % 256;
     «next_program_counter» = next;
   })
-  pub placed : PlacedAfter (progress .place) next address width eventCount new (r .place)
+  pub placed : r .place ≡ movedTo (progress .place) next new
   pub readies : Readies image rows (r .place) r
 
--- a step is the semantics' in every state that the code tracks
-abbrev pub Steps : List ℕ → ℕ → Progress → LaneWord → LaneWord → List ℕ → List ℕ → Effect → List ℕ → List ℕ → Type 0
-Steps image eventCount progress left right rows trace r rows′ trace′ =
-    (symbols : Rv32SymbolLayout) (n : ℕ) (lent : List ℕ) (s : LaneState)
-    → symbols .«event_count» ≡ eventCount
-    → Tracks image symbols n lent (progress .place) rows trace s
-    → Goes image symbols n lent progress s
-    → reg (program image symbols n lent) (space image symbols n lent) s (progress .rs1) ≡ left
-    → reg (program image symbols n lent) (space image symbols n lent) s (progress .rs2) ≡ right
-    → Stepped image symbols n lent s r rows′ trace′
+-- what comes after a change: the step's entry and the next place, or the end
+pub record Stays (progress : Progress) (e : Rv32Error) (trace : List ℕ) (r : Progress) (trace′ : List ℕ) : Type 0 where
+  pub no-more : r .more ≡ false
+  pub ends : r .ending ≡ ending.Refused e
+  pub same-place : r .place ≡ progress .place
+  pub same-trace : trace′ ≡ trace
+
+abbrev pub Follows : List ℕ → List ℕ → Progress → ℕ → List ℕ → Progress → List ℕ → Change → Type 0
+Follows image rows progress new trace r trace′ (change.Goes next) = Completes image rows progress next 0 trace r trace′
+Follows image rows progress new trace r trace′ (change.Sets rd v next) = Completes image rows progress next 0 trace r trace′
+Follows image rows progress new trace r trace′ (change.Computes rd next) = Completes image rows progress next 0 trace r trace′
+Follows image rows progress new trace r trace′ (change.Loads rd a n e next) = Completes image rows progress next 0 trace r trace′
+Follows image rows progress new trace r trace′ (change.Stores a n next) = Completes image rows progress next new trace r trace′
+Follows image rows progress new trace r trace′ (change.Refused e) = Stays progress e trace r trace′
 
 -- ---- before any step
 
@@ -180,7 +190,11 @@ startTested size symbols n = do
 
 -- the place before any step: the stop word's four bytes are written
 abbrev pub startPlace : ℕ → Place
-startPlace entry = record { pc = entry; steps = 0; written = 4; recorded = 0; locations = replicate 32 0 }
+startPlace entry = record { pc = entry; steps = 0; written = 4 }
+
+-- no event yet
+abbrev pub startRecorded : Recorded
+startRecorded = record { count = 0; locations = replicate 32 0 }
 
 -- "x0 = 0, x1 = stop, x2 = 801FFFF0, x10 = the input; the rest are unknown"
 abbrev pub startRegisters : List LaneWord

@@ -1,80 +1,87 @@
-// What an operation does to lane words, with the tests that it makes, up to the trace space.
+// What an operation comes to, with the tests that it makes, up to the trace space.
 use super::Change;
-use super::Executed;
 use lane_access::Agreed;
+use lane_access::Loading;
 use lane_access::Role;
 use lane_access::Rv32Error;
 use lane_access::Verdict;
-use lane_access::access;
-use lane_access::agree;
+use lane_access::agreed_in;
 use lane_access::range_of;
 use lane_word::LaneWord;
+use lane_word::Uniform;
 use predicate_action::Action;
 use predicate_action::Extension;
-use riscv32imc::arithmetic::Binary;
+use riscv32imc::fields::sign_extend;
 ghost use mathlib.Core.Path.{_≡_};
-ghost use mathlib.Core.List.{List};
-ghost use Prim.Native.Nat.{ℕ};
-ghost use Rattle.riscv32imc.specs.Value.{valueOf};
-ghost use Rattle.lane_word.specs.declared.LaneWord.{LaneWord};
+ghost use Prim.Native.Nat.{_+_};
+ghost use lib.Dec.{leb};
+ghost use lib.ListN.{length};
 ghost use Rattle.lane_word.specs.Word.{unary};
-ghost use Rattle.predicate_semantics.specs.Meaning as meaning;
 ghost use Rattle.predicate_action.specs.Action.{extensionOf};
+ghost use Rattle.lane_memory.specs.Rows.{rowCount, newBytes};
 ghost use Rattle.lane_access.specs.Answers.{verdictOf};
-ghost use Rattle.riscv32imc_predicate.specs.Changes.{Executes, ExecutesAction, roomFor};
+ghost use Rattle.riscv32imc_predicate.specs.Changes.{Fits, SetsComputed, JumpsTo, Branches, LoadsFrom, StoresTo, ExecutesAction, roomFor};
 
-// JALR: bit 0 is cleared before the uniform test.
-fn jump_to(rd: u32, left: LaneWord, offset: u32, next: u32) -> Executed
-    ensures { λ r. ⌜ ((image rows : List ℕ) (written : ℕ) (right : LaneWord) → Executes image rows written r next left right (λ a b. meaning.jumpTo rd a offset)) ⌝ }
+// A computed word that is uniform is set as one value.
+fn compute(rd: u32, tested: Uniform, next: u32) -> Change
+    ensures { λ r. ⌜ SetsComputed r rd tested next × Fits r ⌝ }
 {
-    let agreed = agree(left.jump_target(offset), Role::JumpTarget);
+    match tested {
+        Uniform::Value(value) => Change::Sets { rd, value, next },
+        Uniform::Unknown => Change::Computes { rd, next },
+        Uniform::Uneven => Change::Computes { rd, next },
+    }
+}
+
+// JALR: the target, whose bit 0 is cleared, must not be 0.
+fn jump_to(rd: u32, tested: Uniform, next: u32) -> Change
+    ensures { λ r. ⌜ JumpsTo r rd tested next × Fits r ⌝ }
+{
+    let agreed = agreed_in(tested, Role::JumpTarget);
     match agreed {
         Agreed::Value(target) => {
             if target == 0 {
-                return Executed {
-                    change: Change::Refused(Rv32Error::ZeroTarget),
-                    value: left,
-                };
+                return Change::Refused(Rv32Error::ZeroTarget);
             }
-            Executed {
-                change: Change::Sets { rd, next: target },
-                value: LaneWord::constant(next),
+            Change::Sets {
+                rd,
+                value: next,
+                next: target,
             }
         }
-        Agreed::Refused(error) => Executed {
-            change: Change::Refused(error),
-            value: left,
-        },
+        Agreed::Refused(error) => Change::Refused(error),
     }
 }
 
-fn branch(test: Binary, left: LaneWord, right: LaneWord, target: u32, next: u32) -> Executed
-    ensures { λ r. ⌜ ((image rows : List ℕ) (written : ℕ) → Executes image rows written r next left right (λ a b. meaning.branch (valueOf test) a b target)) ⌝ }
+fn branch(tested: Uniform, target: u32, next: u32) -> Change
+    ensures { λ r. ⌜ Branches r tested target next × Fits r ⌝ }
 {
-    let agreed = agree(left.map_binary(right, test), Role::Branch);
+    let agreed = agreed_in(tested, Role::Branch);
     match agreed {
         Agreed::Value(direction) => {
             if direction == 0 {
-                return Executed {
-                    change: Change::Goes { next },
-                    value: left,
-                };
+                return Change::Goes { next };
             }
-            Executed {
-                change: Change::Goes { next: target },
-                value: left,
-            }
+            Change::Goes { next: target }
         }
-        Agreed::Refused(error) => Executed {
-            change: Change::Refused(error),
-            value: left,
-        },
+        Agreed::Refused(error) => Change::Refused(error),
     }
 }
 
-// A loaded word, filled by the sign or by zeros.
-fn extend(word: LaneWord, extension: Extension) -> LaneWord
-    ensures { λ r. ⌜ r ≡ unary (extensionOf extension) word ⌝ }
+// A loaded number, filled by its sign or by zeros.
+fn extend_value(value: u32, extension: Extension) -> u32
+    ensures { λ r. ⌜ r ≡ extensionOf extension value ⌝ }
+{
+    match extension {
+        Extension::Byte => sign_extend(value, 8),
+        Extension::Halfword => sign_extend(value, 16),
+        Extension::Unchanged => value,
+    }
+}
+
+// The same, lane by lane.
+pub fn extend(word: LaneWord, extension: Extension) -> LaneWord
+    ensures { λ r. ⌜ (r ≡ unary (extensionOf extension) word) × (length (r .values) ≡ 250) ⌝ }
 {
     match extension {
         Extension::Byte => word.sign_extend(8),
@@ -85,38 +92,49 @@ fn extend(word: LaneWord, extension: Extension) -> LaneWord
 
 fn load(
     rd: u32,
-    left: LaneWord,
-    offset: u32,
+    tested: Uniform,
     width: u32,
     extension: Extension,
     next: u32,
     image: &[u8],
     rows: &[u8],
-) -> Executed
-    ensures { λ r. ⌜ ((written : ℕ) (right : LaneWord) → Executes (now (image .entry)) (now (rows .entry)) written r next left right (λ a b. meaning.load rd a offset width (extensionOf extension))) ⌝ }
+) -> Change
+    ensures { λ r. ⌜ LoadsFrom (now (image .entry)) (now (rows .entry)) r rd tested width extension next × Fits r ⌝ }
 {
-    let agreed = agree(left.add_offset(offset), Role::LoadAddress);
+    let agreed = agreed_in(tested, Role::LoadAddress);
     match agreed {
         Agreed::Value(address) => {
-            let loaded = access(image, rows, address, width);
-            let verdict = loaded.verdict;
-            let word = loaded.word;
-            match verdict {
-                Verdict::Passed => Executed {
-                    change: Change::Sets { rd, next },
-                    value: extend(word, extension),
+            let loading = lane_access::load(image, rows, address, width);
+            match loading {
+                Loading::Value(value) => Change::Sets {
+                    rd,
+                    value: extend_value(value, extension),
+                    next,
                 },
-                Verdict::Refused(error) => Executed {
-                    change: Change::Refused(error),
-                    value: left,
+                Loading::Lanes => Change::Loads {
+                    rd,
+                    address,
+                    width,
+                    extension,
+                    next,
                 },
+                Loading::Refused(error) => Change::Refused(error),
             }
         }
-        Agreed::Refused(error) => Executed {
-            change: Change::Refused(error),
-            value: left,
-        },
+        Agreed::Refused(error) => Change::Refused(error),
     }
+}
+
+// Whether the written bytes and a store's new ones have rows; the new ones are looked for only where not all of the store's would.
+fn rows_suffice(rows: &[u8], written: u32, address: u32, width: u32) -> bool
+    ensures { λ r. ⌜ r ≡ leb (written + newBytes (now (rows .entry)) width address) (rowCount (now (rows .entry))) ⌝ }
+{
+    let count = lane_memory::row_count(rows) as u64;
+    if (written as u64) + (width as u64) <= count {
+        return true;
+    }
+    let new = lane_memory::new_bytes(rows, address, width);
+    (written as u64) + (new as u64) <= count
 }
 
 // Where a store may go: range, image, rows.
@@ -130,113 +148,86 @@ fn room_for(address: u32, width: u32, end: usize, rows: &[u8], written: u32) -> 
     if ((address - riscv32imc::RV32_IMAGE_BASE) as usize) < end {
         return Verdict::Refused(Rv32Error::StoreBelowImageEnd);
     }
-    let new = lane_memory::new_bytes(rows, address, width);
-    if (lane_memory::row_count(rows) as u64) < (written as u64) + (new as u64) {
+    if !rows_suffice(rows, written, address, width) {
         return Verdict::Refused(Rv32Error::NoRow);
     }
     Verdict::Passed
 }
 
-fn store(
-    left: LaneWord,
-    right: LaneWord,
-    offset: u32,
-    width: u32,
-    next: u32,
-    image: &[u8],
-    rows: &[u8],
-    written: u32,
-) -> Executed
-    ensures { λ r. ⌜ Executes (now (image .entry)) (now (rows .entry)) written r next left right (λ a b. meaning.store a b offset width) ⌝ }
+fn store(tested: Uniform, width: u32, next: u32, end: usize, rows: &[u8], written: u32) -> Change
+    ensures { λ r. ⌜ StoresTo (now (rows .entry)) written end r tested width next × Fits r ⌝ }
 {
-    let agreed = agree(left.add_offset(offset), Role::StoreAddress);
+    let agreed = agreed_in(tested, Role::StoreAddress);
     match agreed {
         Agreed::Value(address) => {
-            let room = room_for(address, width, image.len(), rows, written);
+            let room = room_for(address, width, end, rows, written);
             match room {
-                Verdict::Passed => Executed {
-                    change: Change::Stores {
-                        address,
-                        width,
-                        next,
-                    },
-                    value: right,
+                Verdict::Passed => Change::Stores {
+                    address,
+                    width,
+                    next,
                 },
-                Verdict::Refused(error) => Executed {
-                    change: Change::Refused(error),
-                    value: right,
-                },
+                Verdict::Refused(error) => Change::Refused(error),
             }
         }
-        Agreed::Refused(error) => Executed {
-            change: Change::Refused(error),
-            value: right,
-        },
+        Agreed::Refused(error) => Change::Refused(error),
     }
 }
 
-// An action with the words of its sources.
+// An action, by what is told of the word that it computes.
 pub fn execute(
     action: Action,
     next: u32,
-    left: LaneWord,
-    right: LaneWord,
+    tested: Uniform,
     image: &[u8],
     rows: &[u8],
     written: u32,
-) -> Executed
-    ensures { λ r. ⌜ ExecutesAction (now (image .entry)) (now (rows .entry)) written r next left right action ⌝ }
+) -> Change
+    ensures { λ r. ⌜ ExecutesAction (now (image .entry)) (now (rows .entry)) written r next tested action × Fits r ⌝ }
 {
     match action {
-        Action::Nothing => Executed {
-            change: Change::Goes { next },
-            value: left,
-        },
-        Action::Literal { rd, value } => Executed {
-            change: Change::Sets { rd, next },
-            value: LaneWord::constant(value),
-        },
+        Action::Nothing => Change::Goes { next },
+        Action::Literal { rd, value } => Change::Sets { rd, value, next },
         Action::Compute {
             rd,
-            function,
+            function: _,
             rs1: _,
             rs2: _,
-        } => Executed {
-            change: Change::Sets { rd, next },
-            value: left.map_binary(right, function),
-        },
+        } => compute(rd, tested, next),
         Action::ComputeImmediate {
             rd,
-            function,
+            function: _,
             rs1: _,
-            immediate,
-        } => Executed {
-            change: Change::Sets { rd, next },
-            value: left.map_binary(LaneWord::constant(immediate), function),
+            immediate: _,
+        } => compute(rd, tested, next),
+        Action::Jump { rd, target } => Change::Sets {
+            rd,
+            value: next,
+            next: target,
         },
-        Action::Jump { rd, target } => Executed {
-            change: Change::Sets { rd, next: target },
-            value: LaneWord::constant(next),
-        },
-        Action::JumpTo { rd, rs1: _, offset } => jump_to(rd, left, offset, next),
+        Action::JumpTo {
+            rd,
+            rs1: _,
+            offset: _,
+        } => jump_to(rd, tested, next),
         Action::Branch {
-            test,
+            test: _,
             rs1: _,
             rs2: _,
             target,
-        } => branch(test, left, right, target, next),
+        } => branch(tested, target, next),
         Action::Load {
             rd,
             rs1: _,
-            offset,
+            offset: _,
             width,
             extension,
-        } => load(rd, left, offset, width, extension, next, image, rows),
+        } => load(rd, tested, width, extension, next, image, rows),
         Action::Store {
             rs1: _,
             rs2: _,
-            offset,
+            offset: _,
             width,
-        } => store(left, right, offset, width, next, image, rows, written),
+        } => store(tested, width, next, image.len(), rows, written),
     }
 }

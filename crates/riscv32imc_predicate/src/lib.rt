@@ -8,6 +8,8 @@ ghost use Rattle.riscv32imc_predicate.specs.Outcome.{Ran};
 use lane_access::Rv32Error;
 use lane_word::LaneWord;
 use predicate_action::Action;
+use predicate_action::Computation;
+use predicate_action::Extension;
 use predicate_semantics::CompiledMmioEvent;
 use predicate_semantics::PredicateTransducerExecution;
 use predicate_semantics::Rv32SymbolLayout;
@@ -20,25 +22,45 @@ const STOP_WORD: u32 = 0x0010_0073;
 // Bytes of a trace entry.
 pub const ENTRY_BYTES: usize = 13;
 
-// What an operation changes; the value that it sets or stores stands beside it.
+// What an operation changes: a register, with one value for all lanes, with the word that is computed or with loaded lanes; bytes; or nothing.
 enum Change {
-    Goes { next: u32 },
-    Sets { rd: u32, next: u32 },
-    Stores { address: u32, width: u32, next: u32 },
+    Goes {
+        next: u32,
+    },
+    Sets {
+        rd: u32,
+        value: u32,
+        next: u32,
+    },
+    Computes {
+        rd: u32,
+        next: u32,
+    },
+    Loads {
+        rd: u32,
+        address: u32,
+        width: u32,
+        extension: Extension,
+        next: u32,
+    },
+    Stores {
+        address: u32,
+        width: u32,
+        next: u32,
+    },
     Refused(Rv32Error),
 }
 
-struct Executed {
-    change: Change,
-    value: LaneWord,
-}
-
-// Where a completed step leaves the run, besides registers and memory.
+// Where a completed step leaves the run, besides registers, memory and event locations.
 struct Place {
     pc: u32,
     steps: u32,
     written: u32,
-    recorded: u32,
+}
+
+// How many events were recorded, and where the first 32 of them were. Beside the place, which every step copies.
+struct Recorded {
+    count: u32,
     locations: [u32; 32],
 }
 
@@ -57,23 +79,19 @@ struct Progress {
     length: u32,
     rs1: usize,
     rs2: usize,
+    computation: Computation,
     place: Place,
 }
 
-// What a step leaves: the register it sets, 0 for none, and what comes after.
-struct Effect {
-    rd: u32,
-    value: LaneWord,
-    progress: Progress,
-}
-
+// The registers' words, and three more: two operands that are one value, and what is written to x0.
 struct Registers {
-    words: [LaneWord; 32],
+    words: [LaneWord; 35],
 }
 
 // Where the loop ends.
 struct Reached {
     progress: Progress,
+    recorded: Recorded,
     x10: LaneWord,
 }
 
@@ -90,7 +108,7 @@ pub struct PredicateRun {
     pub events: [CompiledMmioEvent; 32],
 }
 
-// The run; the lent rows are zero before and after it.
+// The run; no lent row is used before it, and all are zero after it.
 pub fn execute_invalid_channel_predicate(
     image: &[u8],
     symbols: Rv32SymbolLayout,
@@ -99,7 +117,7 @@ pub fn execute_invalid_channel_predicate(
 ) -> PredicateRun
     ensures { λ r. ⌜ Ran (now (image .entry)) symbols (now (rows .entry)) (now (trace .entry)) r (now (rows .exit)) (now (trace .exit)) ⌝ }
 {
-    lane_memory::clear(rows);
+    lane_memory::unmark(rows);
     let outcome = run::run(image, symbols, rows, trace);
     lane_memory::clear(rows);
     outcome

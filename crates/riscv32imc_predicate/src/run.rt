@@ -1,31 +1,46 @@
 // The run: the tests before any step, the loop over the registers, the outcome.
+use super::Change;
+use super::ENTRY_BYTES;
 use super::Ending;
 use super::Place;
 use super::PredicateAnswer;
 use super::PredicateRun;
 use super::Progress;
 use super::Reached;
+use super::Recorded;
 use super::Registers;
 use super::STOP;
 use super::STOP_WORD;
+use super::execute::extend;
 use super::finish::Finished;
 use super::finish::finish;
 use super::finish::no_events;
+use super::step::decide;
+use super::step::follow;
+use super::step::located;
 use super::step::ready;
-use super::step::step;
 use lane_access::Rv32Error;
 use lane_access::Verdict;
 use lane_word::LaneWord;
+use lane_word::Uniform;
+use lane_word::is_value;
+use lane_word::lanes_of;
+use lane_word::tell;
+use lane_word::told_by;
+use predicate_action::Computation;
+use predicate_action::Extension;
 use predicate_semantics::PredicateTransducerExecution;
 use predicate_semantics::Rv32SymbolLayout;
 ghost use mathlib.Core.Path.{_≡_};
 ghost use mathlib.Core.List.{[]};
+ghost use Rattle.lane_word.specs.Word.{constant};
 ghost use Rattle.predicate_semantics.specs.Program.{inMemory, placed};
 ghost use Rattle.predicate_semantics.specs.Blank.{noExecution};
 ghost use Rattle.lane_memory.specs.Rows.{rowCount, cleared};
 ghost use Rattle.lane_memory.specs.Holds.{Holds};
 ghost use Rattle.lane_access.specs.Answers.{verdictOf};
-ghost use Rattle.riscv32imc_predicate.specs.Tracking.{startTested, startPlace, startRegisters, Begins, Arrives};
+ghost use Rattle.riscv32imc_predicate.specs.Tracking.{startTested, startPlace, startRecorded, Begins, Arrives};
+ghost use Rattle.riscv32imc_predicate.specs.Register.{slotOf, placeOf, operandTold, startTold, StartWords, Stores, LoadsLanes};
 ghost use Rattle.riscv32imc_predicate.specs.Outcome.{refusedRun, Answered, Runs};
 
 fn in_memory(address: u32) -> bool
@@ -72,23 +87,98 @@ fn start_place(entry: u32) -> Place
         pc: entry,
         steps: 0,
         written: 4,
-        recorded: 0,
+    }
+}
+
+fn start_recorded() -> Recorded
+    ensures { λ r. ⌜ r ≡ startRecorded ⌝ }
+{
+    Recorded {
+        count: 0,
         locations: [0; 32],
     }
 }
 
 fn start_registers() -> Registers
-    ensures { λ r. ⌜ r .words ≡ startRegisters ⌝ }
+    ensures { λ r. ⌜ StartWords (r .words) ⌝ }
 {
-    let mut words = [LaneWord::unknown(); 32];
-    words[0] = LaneWord::constant(0);
-    words[1] = LaneWord::constant(STOP);
-    words[2] = LaneWord::constant(0x801F_FFF0);
+    let mut words = [LaneWord::unknown(); 35];
     words[10] = LaneWord::input_domain();
     Registers { words }
 }
 
-// Steps up to the run's end. The registers stay here; a step is given the words that it reads and hands back the one it sets.
+// x0, x1 and x2 are told by their values.
+fn start_told() -> [Uniform; 35]
+    ensures { λ r. ⌜ r ≡ startTold ⌝ }
+{
+    let mut told = [Uniform::Unknown; 35];
+    told[0] = Uniform::Value(0);
+    told[1] = Uniform::Value(STOP);
+    told[2] = Uniform::Value(0x801F_FFF0);
+    told
+}
+
+fn second_operand(computation: Computation, second: Uniform) -> Uniform
+    ensures { λ r. ⌜ r ≡ operandTold computation second ⌝ }
+{
+    if computation.immediate {
+        return Uniform::Value(computation.operand);
+    }
+    second
+}
+
+// Where the word of an operand is: one value is laid out at a place of its own.
+fn place_of(told: Uniform, register: usize, own: usize) -> usize
+    ensures { λ r. ⌜ r ≡ placeOf told register own ⌝ }
+{
+    match told {
+        Uniform::Value(_) => own,
+        Uniform::Unknown => register,
+        Uniform::Uneven => register,
+    }
+}
+
+// Where a register is set; what is set in x0 is read by none.
+fn slot_of(rd: u32) -> usize
+    ensures { λ r. ⌜ r ≡ slotOf rd ⌝ }
+{
+    if rd == 0 {
+        return 34;
+    }
+    if rd < 32 {
+        return rd as usize;
+    }
+    34
+}
+
+// Stores a word's bytes; how many of them have no row before.
+fn store_lanes(rows: &mut [u8], address: u32, width: u32, word: LaneWord) -> u32
+    ensures { λ r. ⌜ Stores (now (rows .entry)) address width word r (now (rows .exit)) ⌝ }
+{
+    let new = lane_memory::new_bytes(rows, address, width);
+    lane_memory::store(rows, address, width, word);
+    new
+}
+
+// The same of one value in every lane.
+fn store_told(rows: &mut [u8], address: u32, width: u32, value: u32) -> u32
+    ensures { λ r. ⌜ Stores (now (rows .entry)) address width (constant 250 value) r (now (rows .exit)) ⌝ }
+{
+    let new = lane_memory::new_bytes(rows, address, width);
+    lane_memory::store_value(rows, address, width, value);
+    new
+}
+
+// The loaded lanes, extended.
+fn load_lanes(image: &[u8], rows: &[u8], address: u32, width: u32, extension: Extension) -> LaneWord
+    ensures { λ r. ⌜ LoadsLanes (now (image .entry)) (now (rows .entry)) address width extension r ⌝ }
+{
+    let loaded = lane_access::access(image, rows, address, width);
+    let word = loaded.word;
+    extend(word, extension)
+}
+
+// Steps up to the run's end. The registers stay here, each told by one value or by its lanes; only single words cross calls.
 fn advance(
     first: Progress,
     image: &[u8],
@@ -101,26 +191,85 @@ fn advance(
     ensures { λ r. ⌜ cleared (now (rows .exit)) ≡ cleared (now (rows .entry)) ⌝ }
 {
     let mut registers = start_registers();
+    let mut told = start_told();
+    let mut computed = LaneWord::unknown();
+    let mut recorded = start_recorded();
     let mut progress = first;
     while progress.more {
         let event_count = symbols.event_count;
+        let pc = progress.place.pc;
         let rs1 = progress.rs1;
         let rs2 = progress.rs2;
-        let left = registers.words[rs1];
-        let right = registers.words[rs2];
-        let effect = step(progress, left, right, image, event_count, rows, trace);
-        let rd = effect.rd;
-        if rd != 0 {
-            if rd < 32 {
-                let value = effect.value;
-                registers.words[rd as usize] = value;
+        let computation = progress.computation;
+        let function = computation.function;
+        let left = told[rs1];
+        let second = told[rs2];
+        let right = second_operand(computation, second);
+        let mut tested = told_by(function, left, right);
+        if !is_value(tested) {
+            match left {
+                Uniform::Value(value) => registers.words[32] = LaneWord::constant(value),
+                Uniform::Unknown => {}
+                Uniform::Uneven => {}
             }
+            match right {
+                Uniform::Value(value) => registers.words[33] = LaneWord::constant(value),
+                Uniform::Unknown => {}
+                Uniform::Uneven => {}
+            }
+            let a = place_of(left, rs1, 32);
+            let b = place_of(right, rs2, 33);
+            computed = registers.words[a].map_binary(registers.words[b], function);
+            tested = tell(computed.known, &computed.values);
         }
-        progress = effect.progress;
+        let change = decide(progress, tested, image, rows, trace.len() / ENTRY_BYTES);
+        let mut new: u32 = 0;
+        match change {
+            Change::Goes { next: _ } => {}
+            Change::Sets { rd, value, next: _ } => {
+                let slot = slot_of(rd);
+                told[slot] = Uniform::Value(value);
+            }
+            Change::Computes { rd, next: _ } => {
+                let slot = slot_of(rd);
+                told[slot] = tested;
+                registers.words[slot] = computed;
+            }
+            Change::Loads {
+                rd,
+                address,
+                width,
+                extension,
+                next: _,
+            } => {
+                let slot = slot_of(rd);
+                told[slot] = Uniform::Uneven;
+                registers.words[slot] = load_lanes(image, rows, address, width, extension);
+            }
+            Change::Stores {
+                address,
+                width,
+                next: _,
+            } => {
+                recorded = located(recorded, pc, address, width, event_count);
+                match second {
+                    Uniform::Value(value) => new = store_told(rows, address, width, value),
+                    Uniform::Unknown => {
+                        new = store_lanes(rows, address, width, registers.words[rs2])
+                    }
+                    Uniform::Uneven => {
+                        new = store_lanes(rows, address, width, registers.words[rs2])
+                    }
+                }
+            }
+            Change::Refused(_) => {}
+        }
+        progress = follow(progress, change, new, image, rows, trace);
     }
     Reached {
         progress,
-        x10: registers.words[10],
+        recorded,
+        x10: lanes_of(told[10], registers.words[10]),
     }
 }
 
@@ -149,8 +298,8 @@ fn refused(error: Rv32Error, steps: u32) -> PredicateRun
     }
 }
 
-fn answered(place: Place, finished: Finished) -> PredicateRun
-    ensures { λ r. ⌜ Answered place finished r ⌝ }
+fn answered(place: Place, recorded: Recorded, finished: Finished) -> PredicateRun
+    ensures { λ r. ⌜ Answered place recorded finished r ⌝ }
 {
     let verdict = finished.verdict;
     let events = finished.events;
@@ -166,7 +315,7 @@ fn answered(place: Place, finished: Finished) -> PredicateRun
                 symbolic_transitions: place.steps,
                 lane_value_operations: riscv32imc::arithmetic::rv32_mul(250, place.steps),
                 sparse_memory_bytes: place.written,
-                event_count: (place.recorded % 256) as u8,
+                event_count: (recorded.count % 256) as u8,
             },
             events,
         },
@@ -186,7 +335,7 @@ pub fn run(
     if let Verdict::Refused(error) = started {
         return refused(error, 0);
     }
-    lane_memory::store(rows, STOP, 4, LaneWord::constant(STOP_WORD));
+    lane_memory::store_value(rows, STOP, 4, STOP_WORD);
     let first = ready(start_place(symbols.entry), image, rows);
     let reached = advance(first, image, symbols, rows, trace);
     let progress = reached.progress;
@@ -195,8 +344,9 @@ pub fn run(
     match ending {
         Ending::Refused(error) => refused(error, place.steps),
         Ending::Arrived => {
-            let finished = finish(place, reached.x10, image, symbols, rows);
-            answered(place, finished)
+            let recorded = reached.recorded;
+            let finished = finish(recorded, reached.x10, image, symbols, rows);
+            answered(place, recorded, finished)
         }
     }
 }

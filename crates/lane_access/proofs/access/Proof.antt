@@ -5,7 +5,7 @@ use denote.Ref.{now}
 use Rattle.predicate_semantics.specs.Refusal.{passed}
 use Rattle.lane_access.specs.Seen.{seen}
 use Rattle.lane_access.specs.Answers.{verdictOf}
-use Rattle.lane_access.proofs.Loads.{lies-read, inside-fits, access-inside, access-outside}
+use Rattle.lane_access.proofs.Loads.{inside-fits, access-inside, access-outside}
 use Rattle.lane_access.proofs.access.Statement.{statement}
 use Rattle.lane_access.proofs.access.Tie as tie
 
@@ -21,28 +21,13 @@ access-spec =
     let a = r .before .before .before .args in
     sym (access-outside (seen (now (a .image)) (now (a .rows))) (a .width) (a .address) _ (sym (r .range-of .ensures) ∙ ap verdictOf (c .before .before .range .given .1))))
     (λ c. search needs)
-    (λ c κs. search needs)
-    (λ c. search needs)
-    (λ c κs. search needs)
-    (λ c.
-    let n = c .before .before in
-    let t = n .before .before .before in
-    let r = t .before .before in
-    let k = r .before .before in
-    let a = k .before .args in
-    let i = sym (r .range-of .ensures) ∙ ap verdictOf (t .enum-told .given .1) in
-    ap passed (c .constant .ensures ∙ sym (lies-read (now (a .image)) (now (a .rows)) (λ j. omega (arith, k .shared-slice-known .given j)) _ (a .width) (a .address)
-    (inside-fits (a .address) (a .width) i .0) (rw (n .number .given .1) at (n .before .before .image-number .ensures))))
-    ∙ sym (access-inside (seen (now (a .image)) (now (a .rows))) (a .width) (a .address) i))
-    (λ c. search needs)
     (λ c κs.
-    let t = c .before .before .before in
-    let r = t .before .before in
+    let r = c .before .before in
     let a = r .before .before .before .args in
-    let f = inside-fits (a .address) (a .width) (sym (r .range-of .ensures) ∙ ap verdictOf (t .enum-told .given .1)) in
+    let f = inside-fits (a .address) (a .width) (sym (r .range-of .ensures) ∙ ap verdictOf (c .enum-told .given .1)) in
     omega (arith, f .1))
     (λ c.
-    let t = c .before .before .before .before in
+    let t = c .before in
     let r = t .before .before in
     let a = r .before .before .before .args in
     ap passed (c .join-bytes .ensures)

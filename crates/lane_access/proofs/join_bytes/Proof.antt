@@ -1,43 +1,51 @@
-use mathlib.Core.Path.{_≡_, refl, _∙_}
-use Prim.Native.Nat.{suc, _+_, _-_, _≤_}
+-- join_bytes
+use mathlib.Core.Path.{_≡_, ap, sym, _∙_}
+use Prim.Native.Nat.{_+_, _-_, _≤_}
 use native.Mathlib.Omega.{arith}
 use borrow.Author.Needs.{needs}
-use Rattle.predicate_semantics.specs.Memory.{read}
+use denote.Ref.{now}
+use lib.ListN.{length}
+use Rattle.riscv32imc.specs.Bits.{join}
+use Rattle.lane_word.specs.Word.{constant, binary}
+use Rattle.lane_memory.proofs.Laws.{joined-word}
 use Rattle.lane_access.specs.Seen.{seen}
+use Rattle.lane_access.proofs.Loads.{rest, rest-none, rest-more, rest-all}
 use Rattle.lane_access.proofs.join_bytes.Statement.{statement}
 use Rattle.lane_access.proofs.join_bytes.Tie as tie
 
 abbrev I : tie.InvT-loop
-I image rows address width word₀ left₀ word left =
-    (left ≤ width) × (word ≡ read 250 (seen image rows) (width - left) (address + left))
+I image rows address width values₀ known₀ left₀ values known left =
+    (left ≤ width) × (length values ≡ 250) × (record { values = values; known = known } ≡ rest (seen image rows) width address left)
 
 pub join-bytes-spec : {M : Type 1} → statement M
-unfolding read
+unfolding constant
 join-bytes-spec =
     tie.close
     (tie.spec
     I
-    (λ image rows address width word₀ left₀ word left. left)
-    (λ c κs. search needs)
+    (λ image rows address width values₀ known₀ left₀ values known left. left)
     (λ c.
-    let a = c .before .before .before .args in
-    let z : a .width - a .width ≡ 0 = omega arith in
-    (omega arith, rw z (c .constant .ensures)))
+    let a = c .before .before .args in
+    (omega arith, search needs, sym (rest-none (seen (now (a .image)) (now (a .rows))) (a .width) (a .address))))
+    (λ c. search needs)
     (λ c. search needs)
     (λ c. search needs)
     (λ c κs. search needs)
     (λ c κs. search needs)
     (λ c. search needs)
     (λ c.
-    let l = c .before .before .before .loop in
-    let a = c .before .before .before .before .before .before .before .args in
-    let e : a .width - (l .left - 1) ≡ suc (a .width - l .left) = omega (arith, l .inv .0, c .before .before .loop-test .taken) in
-    let f : suc (a .address + (l .left - 1)) ≡ a .address + l .left = omega (arith, c .before .before .loop-test .taken) in
-    (omega (arith, l .inv .0), rw (e, f) (c .join .ensures ∙ rw (c .before .byte-at .ensures, l .inv .1) refl)))
+    let j = c .before .before in
+    let t = j .before .before in
+    let l = t .before .loop in
+    let a = t .before .before .before .before .args in
+    let m = seen (now (a .image)) (now (a .rows)) in (
+      omega (arith, l .inv .0),
+      search needs,
+      joined-word (m (a .address + (l .left - 1))) (l .values) (l .known) (l .inv .1) (j .join-at .ensures) (c .both .ensures)
+          ∙ ap (binary join (m (a .address + (l .left - 1)))) (l .inv .2)
+          ∙ sym (rest-more m (a .width) (a .address) (l .left) (l .inv .0) (t .loop-test .taken)),
+    ))
     (λ c.
     let l = c .before .loop in
-    let a = c .before .before .before .before .before .args in
-    let z : l .left ≡ 0 = omega (arith, c .loop-test .left) in
-    let e : a .width - 0 ≡ a .width = omega arith in
-    let f : a .address + 0 ≡ a .address = omega arith in
-    rw (e, f) at (rw z at (l .inv .1))))
+    let a = c .before .before .before .before .args in
+    l .inv .2 ∙ rest-all (seen (now (a .image)) (now (a .rows))) (a .width) (a .address) (l .left) (c .loop-test .left)))

@@ -1,11 +1,11 @@
 use borrow.Author.Needs.{needs}
-use Rattle.lane_memory.specs.Rows.{storeByte}
+use Rattle.lane_memory.specs.Rows.{storeRow}
 use Rattle.lane_memory.proofs.Tables.{at-inside, free-inside}
 use Rattle.lane_memory.proofs.store_byte.Statement.{statement}
 use Rattle.lane_memory.proofs.store_byte.Tie as tie
 
 pub store-byte-spec : {M : Type 1} → statement M
-unfolding storeByte
+unfolding storeRow
 store-byte-spec =
     tie.close
     (tie.spec

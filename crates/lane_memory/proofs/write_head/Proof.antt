@@ -14,6 +14,7 @@ write-head-spec =
     (λ c κs. search needs)
     (λ c. search needs)
     (λ c. simp length-set (omega arith))
+    (λ c κs. search needs)
     (λ c. search needs)
     (λ c. simp length-set (omega arith))
     (λ c. search needs)
@@ -21,5 +22,5 @@ write-head-spec =
     (λ c. search needs)
     (λ c κs. search needs)
     (λ c. c .before .before .put-u32 .kept .0 ∙ simp length-set)
-    (λ c. let p = c .before .before in let a = p .before .before .before .before .args in
-    p .put-u32 .ensures ∙ head-set (a .rows .now) (a .at) (a .address) (a .known) (p .before .before .mark .ensures)))
+    (λ c. let p = c .before .before in let m = p .before .before in let a = m .before .before .before .args in
+    p .put-u32 .ensures ∙ head-set (a .rows .now) (a .at) (a .address) (a .known) (a .uniform) (m .before .mark .ensures) (m .mark2 .ensures)))

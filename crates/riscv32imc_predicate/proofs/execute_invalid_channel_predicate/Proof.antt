@@ -6,14 +6,14 @@ use Rattle.riscv32imc_predicate.proofs.execute_invalid_channel_predicat
 use Rattle.riscv32imc_predicate.proofs.execute_invalid_channel_predicate.Tie as tie
 
 -- what the three calls left
-abbrev cleared-last : tie.After-slice-known6 → tie.After-clear2
+abbrev cleared-last : tie.After-slice-known6 → tie.After-clear
 cleared-last c = c .before .before
 
 abbrev ran-of : tie.After-slice-known6 → tie.After-run
 ran-of c = cleared-last c .before .before .before .before .before .before
 
-abbrev cleared-first : tie.After-slice-known6 → tie.After-clear
-cleared-first c = ran-of c .before .before .before .before .before
+abbrev unmarked-first : tie.After-slice-known6 → tie.After-unmark
+unmarked-first c = ran-of c .before .before .before .before .before
 
 pub execute-invalid-channel-predicate-spec : {M : Type 1} → statement M
 execute-invalid-channel-predicate-spec =
@@ -22,11 +22,11 @@ execute-invalid-channel-predicate-spec =
     (λ c κs. search needs)
     (λ c κs.
     let d = c .before .before .before .before in
-    holds-none (now (d .before .before .before .before .before .args .rows)) _ (d .clear .ensures))
+    holds-none (now (d .before .before .before .before .before .args .rows)) _ (d .unmark .ensures))
     (λ c κs. search needs)
-    (λ c. let r = ran-of c in cleared-last c .clear2 .kept .0 ∙ r .run .kept .1 .1 .0 ∙ cleared-first c .clear .kept .0)
+    (λ c. let r = ran-of c in cleared-last c .clear .kept .0 ∙ r .run .kept .1 .1 .0 ∙ unmarked-first c .unmark .kept .0)
     (λ c. ran-of c .run .kept .1 .1 .1 .0)
     (λ c.
-    let b = cleared-first c in
+    let b = unmarked-first c in
     let a = b .before .before .before .before .before .args in
-    ran (now (a .image)) (a .symbols) (now (a .rows)) (now (a .trace)) _ _ _ _ _ (b .clear .ensures) (ran-of c .run .ensures) (cleared-last c .clear2 .ensures)))
+    ran (now (a .image)) (a .symbols) (now (a .rows)) (now (a .trace)) _ _ _ _ _ (b .unmark .ensures) (ran-of c .run .ensures) (cleared-last c .clear .ensures)))

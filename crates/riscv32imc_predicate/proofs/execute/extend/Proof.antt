@@ -1,6 +1,9 @@
-use mathlib.Core.Path.{sym}
+use mathlib.Core.Path.{_≡_, refl, sym, _∙_}
+use lib.ListN.{length}
 use borrow.Author.Needs.{needs}
 use Rattle.lane_word.proofs.Words.{unary-id}
+use Rattle.lane_word.proofs.Told.{unary-size}
+use Rattle.predicate_semantics.specs.Meaning.{byte, halfword}
 use Rattle.riscv32imc_predicate.proofs.execute.extend.Statement.{statement}
 use Rattle.riscv32imc_predicate.proofs.execute.extend.Tie as tie
 
@@ -13,6 +16,15 @@ extend-spec =
     (λ c. search needs)
     (λ c κs. search needs)
     (λ c. search needs)
-    (λ c. rw (c .before .enum-told .given .1) (c .sign-extend .ensures))
-    (λ c. rw (c .before .enum-told2 .given .1) (c .sign-extend2 .ensures))
-    (λ c. rw (c .enum-told3 .given .1) (sym (unary-id (c .before .before .args .word)))))
+    (λ c.
+    let w = c .before .before .before .args .word in
+    let z : length (w .values) ≡ 250 = search needs in
+    rw (c .before .enum-told .given .1, c .sign-extend .ensures) (refl, unary-size byte w ∙ z))
+    (λ c.
+    let w = c .before .before .before .args .word in
+    let z : length (w .values) ≡ 250 = search needs in
+    rw (c .before .enum-told2 .given .1, c .sign-extend2 .ensures) (refl, unary-size halfword w ∙ z))
+    (λ c.
+    let w = c .before .before .args .word in
+    let z : length (w .values) ≡ 250 = search needs in
+    rw (c .enum-told3 .given .1) (sym (unary-id w), z)))

@@ -1,7 +1,11 @@
+use mathlib.Core.Path.{sym, ap, _∙_}
 use borrow.Author.Needs.{needs}
+use denote.Ref.{now}
+use Rattle.lane_word.proofs.Told.{unary-constant}
 use Rattle.predicate_semantics.specs.Refusal.{_>>=_}
+use Rattle.lane_access.specs.Seen.{seen}
+use Rattle.lane_access.proofs.Laws.{access-inside, access-outside}
 use Rattle.predicate_action.specs.Action.{extensionOf}
-use Rattle.riscv32imc_predicate.proofs.Execution.{agreed-is, loaded-is, load-is}
 use Rattle.riscv32imc_predicate.proofs.execute.load.Statement.{statement}
 use Rattle.riscv32imc_predicate.proofs.execute.load.Tie as tie
 
@@ -11,29 +15,56 @@ load-spec =
     tie.close
     (tie.spec
     (λ c κs. search needs)
-    (λ c κs. search needs)
     (λ c. search needs)
     (λ c κs. search needs)
     (λ c. search needs)
     (λ c κs. search needs)
     (λ c. search needs)
     (λ c. search needs)
-    (λ c written right p l s g a b x y.
-    let t = c .before in
-    let d = t .before .before .before in
-    let v = d .before .before in
-    let r = v .before .before in
-    let n = r .before .before .before .before .args in
-    rw (load-is g (n .next) a x (n .rd) (n .offset) (n .width) (extensionOf (n .extension)) _ (agreed-is 3 (v .agreed .given .1) (r .agree .ensures) (r .before .add-offset .ensures)), loaded-is (d .access .result) (t .enum-told .given .1) (d .access .ensures), c .extend .ensures))
-    (λ c written right p l s g a b x y.
-    let t = c .before in
-    let d = t .before .before .before in
-    let v = d .before .before in
-    let r = v .before .before in
-    let n = r .before .before .before .before .args in
-    rw (load-is g (n .next) a x (n .rd) (n .offset) (n .width) (extensionOf (n .extension)) _ (agreed-is 3 (v .agreed .given .1) (r .agree .ensures) (r .before .add-offset .ensures)), loaded-is (d .access .result) (t .verdict .given .1) (d .access .ensures)))
-    (λ c written right p l s g a b x y.
-    let v = c .before in
-    let r = v .before .before in
-    let n = r .before .before .before .before .args in
-    rw (load-is g (n .next) a x (n .rd) (n .offset) (n .width) (extensionOf (n .extension)) _ (agreed-is 3 (v .agreed2 .given .1) (r .agree .ensures) (r .before .add-offset .ensures)))))
+    (λ c. search needs)
+    (λ c. (
+      λ w r.
+          let l = c .before .before in
+          let d = l .before .before in
+          let v = d .before .before in
+          let k = v .before .before in
+          let a = k .before .before .before .args in
+          let h = rw (l .loading .given .1) at (d .load .ensures) in
+          rw (
+            ← (k .agreed-in .ensures),
+            v .agreed .given .1,
+            access-inside (seen (now (a .image)) (now (a .rows))) (a .width) (v .agreed .given .0 .0) (h .0),
+            h .1,
+            unary-constant (extensionOf (a .extension)) 250 (l .loading .given .0 .0),
+            c .extend-value .ensures,
+          ),
+      tt,
+    ))
+    (λ c. (
+      λ w r.
+          let d = c .before .before in
+          let v = d .before .before in
+          let k = v .before .before in
+          let a = k .before .before .before .args in
+          rw (
+            ← (k .agreed-in .ensures),
+            v .agreed .given .1,
+            access-inside (seen (now (a .image)) (now (a .rows))) (a .width) (v .agreed .given .0 .0) (rw (c .enum-told .given .1) at (d .load .ensures)),
+          ),
+      rw (c .enum-told .given .1) at (c .before .before .load .ensures),
+    ))
+    (λ c. (
+      λ w r.
+          let l = c .before in
+          let d = l .before .before in
+          let v = d .before .before in
+          let k = v .before .before in
+          let a = k .before .before .before .args in
+          rw (
+            ← (k .agreed-in .ensures),
+            v .agreed .given .1,
+            access-outside (seen (now (a .image)) (now (a .rows))) (a .width) (v .agreed .given .0 .0) _ (rw (l .loading2 .given .1) at (d .load .ensures)),
+          ),
+      tt,
+    ))
+    (λ c. (λ w r. let v = c .before in rw (← (v .before .before .agreed-in .ensures), v .agreed2 .given .1), tt)))

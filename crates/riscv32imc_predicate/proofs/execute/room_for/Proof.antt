@@ -1,6 +1,6 @@
 use native.Mathlib.Omega.{arith}
 use borrow.Author.Needs.{needs}
-use borrow.Author.Tests.{le-leb, lt-leb}
+use borrow.Author.Tests.{le-leb, lt-leb, not-true, not-false}
 use Prim.Native.Nat.{_+_}
 use Rattle.riscv32imc.specs.Constants.{imageBase}
 use Rattle.predicate_semantics.specs.Refusal.{_>>=_, refuse, require}
@@ -28,11 +28,9 @@ room-for-spec =
     let a = r .before .before .args in
     rw (verdict-is (c .before .enum-told .given .1) (r .range-of .ensures), lt-leb (imageBase + a .end) (a .address) (omega (arith, c .if1 .taken))))
     (λ c κs. search needs)
-    (λ c κs. search needs)
-    (λ c. search needs)
-    (λ c. search needs)
     (λ c.
-    let e = c .before .before .before in
+    let b = c .before in
+    let e = b .before in
     let t = e .before in
     let r = t .before .before in
     let a = r .before .before .args in
@@ -40,10 +38,12 @@ room-for-spec =
     rw (
       i,
       le-leb (imageBase + a .end) (a .address) (omega (arith, inside-fits (a .address) (a .width) i .0, e .if1 .left)),
-      lt-leb _ _ (rw (c .before .row-count .ensures, c .before .before .new-bytes .ensures) at (c .if2 .taken)),
+      ← (b .rows-suffice .ensures),
+      not-true (b .rows-suffice .result) (c .if2 .taken),
     ))
     (λ c.
-    let e = c .before .before .before in
+    let b = c .before in
+    let e = b .before in
     let t = e .before in
     let r = t .before .before in
     let a = r .before .before .args in
@@ -51,5 +51,6 @@ room-for-spec =
     rw (
       i,
       le-leb (imageBase + a .end) (a .address) (omega (arith, inside-fits (a .address) (a .width) i .0, e .if1 .left)),
-      le-leb _ _ (rw (c .before .row-count .ensures, c .before .before .new-bytes .ensures) at (c .if2 .left)),
+      ← (b .rows-suffice .ensures),
+      not-false (b .rows-suffice .result) (c .if2 .left),
     )))

@@ -30,4 +30,4 @@ answered-spec =
     let f = a .finished in
     let q = subst (λ (v : Verdict). Answers v (f .«return_value») (f .events) s (finish (standing image symbols) (setup n entries) s)) (g .enum-told .given .1) h in
     rw (c .before .rv32-mul .ensures)
-    (told-accepted image symbols n entries s (f .«return_value») (a .place .steps) (a .place .written) (a .place .recorded) (q .0) (f .events) e b w r (q .2) (q .1))))
+    (told-accepted image symbols n entries s (f .«return_value») (a .place .steps) (a .place .written) (a .recorded .count) (q .0) (f .events) e b w r (q .2) (q .1))))

@@ -1,8 +1,8 @@
-use mathlib.Core.Path.{_≡_, refl, sym, ap, _∙_, subst}
+use mathlib.Core.Path.{sym, _∙_, subst}
 use denote.Ref.{now}
 use borrow.Author.Needs.{needs}
 use Rattle.riscv32imc_predicate.specs.declared.Place.{Place}
-use Rattle.riscv32imc_predicate.specs.Tracking.{PlacedAfter, Readies}
+use Rattle.riscv32imc_predicate.specs.Tracking.{Readies}
 use Rattle.riscv32imc_predicate.proofs.step.complete.Statement.{statement}
 use Rattle.riscv32imc_predicate.proofs.step.complete.Tie as tie
 
@@ -24,6 +24,6 @@ complete-spec =
     let r = c .ready .ensures in
     record {
       entry = e .put-entry .ensures;
-      placed = subst (PlacedAfter (a .progress .place) (a .next) (a .address) (a .width) (a .event-count) (a .new)) (sym (r .0)) (d .place-after .ensures);
+      placed = r .0 ∙ d .moved .ensures;
       readies = subst (λ (x : Place). Readies (now (a .image)) (now (a .rows)) x (c .ready .result)) (sym (r .0)) (r .1);
     }))

@@ -1,4 +1,3 @@
-use mathlib.Core.Path.{_≡_}
 use borrow.Author.Needs.{needs}
 use borrow.Author.Tests.{lt-ltb, le-ltb}
 use Rattle.predicate_semantics.specs.Refusal.{_>>=_, refuse, require}
@@ -12,12 +11,16 @@ unfolding _>>=_ refuse require
 last-test-spec =
     tie.close
     (tie.spec
-    (λ c w. rw (lt-ltb _ _ (c .if1 .taken)) (last-open (changeOf (c .before .args .change) w)))
+    (λ c. (λ m w r. rw (lt-ltb _ _ (c .if1 .taken)) (last-open (changeOf m w r (c .before .args .change))), λ h. h))
     (λ c. search needs)
     (λ c. search needs)
     (λ c. search needs)
     (λ c. search needs)
-    (λ c w. rw (c .enum-told .given .1, le-ltb _ _ (c .before .before .if1 .left)))
-    (λ c w. rw (c .enum-told2 .given .1, le-ltb _ _ (c .before .before .if1 .left)))
-    (λ c w. rw (c .enum-told3 .given .1, le-ltb _ _ (c .before .before .if1 .left)))
-    (λ c w. rw (c .before .change .given .1)))
+    (λ c. search needs)
+    (λ c. search needs)
+    (λ c. (λ m w r. rw (c .enum-told .given .1, le-ltb _ _ (c .before .before .if1 .left)), λ h. tt))
+    (λ c. (λ m w r. rw (c .enum-told2 .given .1, le-ltb _ _ (c .before .before .if1 .left)), λ h. tt))
+    (λ c. (λ m w r. rw (c .enum-told3 .given .1, le-ltb _ _ (c .before .before .if1 .left)), λ h. tt))
+    (λ c. (λ m w r. rw (c .enum-told4 .given .1, le-ltb _ _ (c .before .before .if1 .left)), λ h. tt))
+    (λ c. (λ m w r. rw (c .enum-told5 .given .1, le-ltb _ _ (c .before .before .if1 .left)), λ h. tt))
+    (λ c. (λ m w r. rw (c .before .change .given .1), λ h. tt)))

@@ -30,17 +30,18 @@ ready-spec =
     (λ c. search needs)
     (λ c κs. search needs)
     (λ c. search needs)
+    (λ c κs. search needs)
     (λ c. search needs)
     (λ c κs. search needs)
     (λ c.
-    let g = c .before .before .before .before in
+    let g = c .before .before .before .before .before in
     let f = g .before .before in
     let b = f .before .before .before in
     let a = b .before .before .before .args in (
       refl,
       comes-next (now (a .image)) (now (a .rows)) (a .place) _ (b .if1 .left) (f .before .if2 .left) (g .fetching .given .0 .0) refl
-          (λ steps. sym (ap fetchingOf (g .fetching .given .1)) ∙ f .fetch .ensures steps) refl refl (c .before .before .action-of .ensures)
-          (c .before .first-source .ensures) (c .second-source .ensures),
+          (λ steps. sym (ap fetchingOf (g .fetching .given .1)) ∙ f .fetch .ensures steps) refl refl (c .before .before .before .action-of .ensures)
+          (c .before .before .first-source .ensures) (c .before .second-source .ensures) (c .computation-of .ensures),
     ))
     (λ c.
     let g = c .before .before in

@@ -1,0 +1,20 @@
+use mathlib.Core.Path.{_∙_}
+use borrow.Author.Needs.{needs}
+use denote.Ref.{now}
+use Rattle.little_endian.proofs.NumberLaws.{value-one}
+use Rattle.predicate_semantics.specs.Program.{initial}
+use Rattle.lane_access.proofs.image_byte.Statement.{statement}
+use Rattle.lane_access.proofs.image_byte.Tie as tie
+
+pub image-byte-spec : {M : Type 1} → statement M
+unfolding initial
+image-byte-spec =
+    tie.close
+    (tie.spec
+    (λ c κs. search needs)
+    (λ c κs. search needs)
+    (λ c. search needs)
+    (λ c.
+    let o = c .before in
+    let a = o .before .before .args in
+    c .get-u8 .ensures ∙ value-one (now (a .image)) (o .offset-of .result) ∙ rw (o .offset-of .ensures)))

@@ -1,0 +1,200 @@
+-- Laws of the registers as the loop holds them. Assumes nothing.
+use mathlib.Core.Bool.{Bool, true, false, cond}
+use mathlib.Core.List.{List, [], _∷_}
+use mathlib.Core.Path.{_≡_, refl, sym, ap, _∙_}
+use Prim.Native.Nat.{ℕ, zero, suc, _≤_, _<_}
+use native.Mathlib.Omega.{arith}
+use borrow.Author.Tests.{eqb-true, eqb-false, ne-eqb, ltb-true, ltb-false}
+use lib.Dec.{eqb, ltb}
+use lib.ListN.{length, getD, set, replicate, length-set, length-replicate}
+use lib.Seq.{getD-set-same, getD-set-other, set-out}
+use Rattle.lane_word.specs.declared.LaneWord.{LaneWord}
+use Rattle.lane_word.specs.declared.Uniform.{Uniform}
+use Rattle.lane_word.specs.declared.Uniform.the-variants.{Value, Unknown, Uneven}
+use Rattle.lane_word.specs.Word.{constant, unknown, domain, inputs}
+use Rattle.lane_word.proofs.Tab.{length-inputs}
+use Rattle.lane_word.specs.Told.{wordOf}
+use Rattle.lane_word.proofs.Told.{constant-size}
+use Rattle.predicate_semantics.specs.Choice.{choose}
+use Rattle.predicate_semantics.specs.State.{fill, atStart, assign}
+use Rattle.predicate_action.specs.declared.Computation.{Computation}
+use Rattle.predicate_action.specs.Computation.{operandOf}
+use Rattle.riscv32imc_predicate.specs.Tracking.{startRegisters}
+use Rattle.riscv32imc_predicate.specs.Register.{heldWords, Held, startTold, slotOf, operandTold, placeOf, laidOut}
+
+-- ---- lists
+
+-- an element that is there, whatever stands for one that is not
+pub read-any : {A : Type 0} (xs : List A) (i : ℕ) (d e : A) → i < length xs → getD xs i d ≡ getD xs i e
+read-any [] i d e h = absurd (omega arith)
+read-any (x ∷ xs) zero d e h = refl
+read-any (x ∷ xs) (suc i) d e h = read-any xs i d e (omega arith)
+
+held-both : (n : ℕ) (us : List Uniform) (ws : List LaneWord) (i : ℕ) (u : Uniform) (w : LaneWord)
+    → heldWords n (set us i u) (set ws i w) ≡ set (heldWords n us ws) i (wordOf u w)
+unfolding heldWords
+held-both zero us ws i u w = refl
+held-both (suc n) [] ws i u w = refl
+held-both (suc n) (x ∷ us) [] zero u w = refl
+held-both (suc n) (x ∷ us) [] (suc i) u w = refl
+held-both (suc n) (x ∷ us) (y ∷ ws) zero u w = refl
+held-both (suc n) (x ∷ us) (y ∷ ws) (suc i) u w = ap (λ (l : List LaneWord). wordOf x y ∷ l) (held-both n us ws i u w)
+
+held-told : (n : ℕ) (us : List Uniform) (ws : List LaneWord) (i v : ℕ) → heldWords n (set us i (Value v)) ws ≡ set (heldWords n us ws) i (constant 250 v)
+unfolding heldWords
+held-told zero us ws i v = refl
+held-told (suc n) [] ws i v = refl
+held-told (suc n) (x ∷ us) [] zero v = refl
+held-told (suc n) (x ∷ us) [] (suc i) v = refl
+held-told (suc n) (x ∷ us) (y ∷ ws) zero v = refl
+held-told (suc n) (x ∷ us) (y ∷ ws) (suc i) v = ap (λ (l : List LaneWord). wordOf x y ∷ l) (held-told n us ws i v)
+
+held-beyond : (n : ℕ) (us : List Uniform) (ws : List LaneWord) (i : ℕ) (w : LaneWord) → n ≤ i → heldWords n us (set ws i w) ≡ heldWords n us ws
+unfolding heldWords
+held-beyond zero us ws i w h = refl
+held-beyond (suc n) [] ws i w h = refl
+held-beyond (suc n) (x ∷ us) [] i w h = refl
+held-beyond (suc n) (x ∷ us) (y ∷ ws) zero w h = absurd (omega arith)
+held-beyond (suc n) (x ∷ us) (y ∷ ws) (suc i) w h = ap (λ (l : List LaneWord). wordOf x y ∷ l) (held-beyond n us ws i w (omega arith))
+
+held-read : (n : ℕ) (us : List Uniform) (ws : List LaneWord) (k : ℕ) (d : LaneWord) (e : Uniform) (f : LaneWord) → k < n → n ≤ length us → n ≤ length ws
+    → getD (heldWords n us ws) k d ≡ wordOf (getD us k e) (getD ws k f)
+unfolding heldWords
+held-read zero us ws k d e f h a b = absurd (omega arith)
+held-read (suc n) [] ws k d e f h a b = absurd (omega arith)
+held-read (suc n) (x ∷ us) [] k d e f h a b = absurd (omega arith)
+held-read (suc n) (x ∷ us) (y ∷ ws) zero d e f h a b = refl
+held-read (suc n) (x ∷ us) (y ∷ ws) (suc k) d e f h a b = held-read n us ws k d e f (omega arith) (omega arith) (omega arith)
+
+-- ---- where a register is set
+
+assign-slot : (xs : List LaneWord) (rd : ℕ) (v : LaneWord) → length xs ≡ 32 → set xs (slotOf rd) v ≡ assign xs rd v
+unfolding assign
+assign-slot xs zero v e = set-out xs 34 v (omega (arith, e))
+assign-slot xs (suc r) v e = rw (ne-eqb (suc r) 0 (λ q. omega arith)) (go (ltb (suc r) 32) refl)
+  where
+    go : (b : Bool) → ltb (suc r) 32 ≡ b → set xs (cond b (suc r) 34) v ≡ set xs (suc r) v
+    go true q = refl
+    go false q = set-out xs 34 v (omega (arith, e)) ∙ sym (set-out xs (suc r) v (omega (arith, e, ltb-false (suc r) 32 q)))
+
+pub slot-below : (rd : ℕ) → slotOf rd < 35
+slot-below rd = go (eqb rd 0) (ltb rd 32) refl
+  where
+    go : (b c : Bool) → ltb rd 32 ≡ c → cond b 34 (cond c rd 34) < 35
+    go true c q = omega arith
+    go false true q = omega (arith, ltb-true rd 32 q)
+    go false false q = omega arith
+
+-- ---- changes
+
+sized-set : (ws : List LaneWord) (i : ℕ) (w : LaneWord) → length ws ≡ 35 → i < 35 → length (w .values) ≡ 250
+    → ((k : ℕ) → k < 35 → length (getD ws k (unknown 250) .values) ≡ 250) → (k : ℕ) → k < 35 → length (getD (set ws i w) k (unknown 250) .values) ≡ 250
+sized-set ws i w e b s f k h = go (eqb k i) refl
+  where
+    go : (c : Bool) → eqb k i ≡ c → length (getD (set ws i w) k (unknown 250) .values) ≡ 250
+    go true q = rw (eqb-true k i q, getD-set-same ws i w (unknown 250) (omega (arith, e, b))) s
+    go false q = rw (getD-set-other ws i k w (unknown 250) (λ z. eqb-false k i q z)) (f k h)
+
+module _ {told : List Uniform} {words registers : List LaneWord} (h : Held told words registers) where
+  -- a register that is read
+  pub held-source : (k : ℕ) (d : LaneWord) (e : Uniform) (f : LaneWord) → k < 32 → getD registers k d ≡ wordOf (getD told k e) (getD words k f)
+  held-source k d e f b = rw (← (h .same)) (held-read 32 told words k d e f b (omega (arith, h .told-size)) (omega (arith, h .words-size)))
+
+  pub held-lanes : (k : ℕ) (d : LaneWord) → k < 35 → length (getD words k d .values) ≡ 250
+  held-lanes k d b = rw (read-any words k d (unknown 250) (omega (arith, h .words-size))) (h .lanes k b)
+
+  -- a register that is set, by one value
+  pub held-value : (rd v : ℕ) → Held (set told (slotOf rd) (Value v)) words (assign registers rd (constant 250 v))
+  held-value rd v = record {
+    told-size = length-set told (slotOf rd) (Value v) ∙ h .told-size;
+    words-size = h .words-size;
+    lanes = h .lanes;
+    size = ap length (sym (assign-slot registers rd (constant 250 v) (h .size))) ∙ length-set registers (slotOf rd) (constant 250 v) ∙ h .size;
+    same =
+        held-told 32 told words (slotOf rd) v
+        ∙ ap (λ (l : List LaneWord). set l (slotOf rd) (constant 250 v)) (h .same)
+        ∙ assign-slot registers rd (constant 250 v) (h .size);
+  }
+
+  -- by a word and what is told of it
+  pub held-word : (rd : ℕ) (u : Uniform) (w : LaneWord) → length (w .values) ≡ 250
+      → Held (set told (slotOf rd) u) (set words (slotOf rd) w) (assign registers rd (wordOf u w))
+  held-word rd u w s = record {
+    told-size = length-set told (slotOf rd) u ∙ h .told-size;
+    words-size = length-set words (slotOf rd) w ∙ h .words-size;
+    lanes = sized-set words (slotOf rd) w (h .words-size) (slot-below rd) s (h .lanes);
+    size = ap length (sym (assign-slot registers rd (wordOf u w) (h .size))) ∙ length-set registers (slotOf rd) (wordOf u w) ∙ h .size;
+    same =
+        held-both 32 told words (slotOf rd) u w
+        ∙ ap (λ (l : List LaneWord). set l (slotOf rd) (wordOf u w)) (h .same)
+        ∙ assign-slot registers rd (wordOf u w) (h .size);
+  }
+
+  -- a value that is laid out past the registers
+  pub held-laid : (u : Uniform) (own : ℕ) → 32 ≤ own → own < 35 → Held told (laidOut u own words) registers
+  held-laid (Value v) own a b = record {
+    told-size = h .told-size;
+    words-size = length-set words own (constant 250 v) ∙ h .words-size;
+    lanes = sized-set words own (constant 250 v) (h .words-size) b (constant-size 250 v) (h .lanes);
+    size = h .size;
+    same = held-beyond 32 told words own (constant 250 v) a ∙ h .same;
+  }
+  held-laid Unknown own a b = h
+  held-laid Uneven own a b = h
+
+  -- is the operand's word there
+  pub laid-read : (u : Uniform) (k own : ℕ) (d e : LaneWord) → k < 35 → own < 35 → getD (laidOut u own words) (placeOf u k own) d ≡ wordOf u (getD words k e)
+  laid-read (Value v) k own d e a b = getD-set-same words own (constant 250 v) d (omega (arith, h .words-size))
+  laid-read Unknown k own d e a b = read-any words k d e (omega (arith, h .words-size))
+  laid-read Uneven k own d e a b = read-any words k d e (omega (arith, h .words-size))
+
+-- another operand's place
+pub laid-other : (words : List LaneWord) (u : Uniform) (k own : ℕ) (d : LaneWord) → (k ≡ own → ⊥) → getD (laidOut u own words) k d ≡ getD words k d
+laid-other words (Value v) k own d n = getD-set-other words own k (constant 250 v) d n
+laid-other words Unknown k own d n = refl
+laid-other words Uneven k own d n = refl
+
+pub place-below : (u : Uniform) (k own : ℕ) → k < 35 → own < 35 → placeOf u k own < 35
+place-below (Value v) k own a b = b
+place-below Unknown k own a b = a
+place-below Uneven k own a b = a
+
+pub place-apart : (u : Uniform) (k : ℕ) → k < 32 → placeOf u k 32 ≡ 33 → ⊥
+place-apart (Value v) k a e = omega arith
+place-apart Unknown k a e = omega arith
+place-apart Uneven k a e = omega arith
+
+-- the second operand's word
+pub operand-word : (c : Computation) (u : Uniform) (w : LaneWord) → wordOf (operandTold c u) w ≡ operandOf c (wordOf u w)
+operand-word c u w = go (c .immediate)
+  where
+    go : (b : Bool) → wordOf (cond b (Value (c .operand)) u) w ≡ cond b (constant 250 (c .operand)) (wordOf u w)
+    go true = refl
+    go false = refl
+
+-- ---- before any step
+
+same-replicate : (n k : ℕ) (w : LaneWord) → getD (replicate n w) k w ≡ w
+same-replicate zero k w = refl
+same-replicate (suc n) zero w = refl
+same-replicate (suc n) (suc k) w = same-replicate n k w
+
+pub unknown-size : (n : ℕ) → length (unknown n .values) ≡ n
+unfolding unknown
+unknown-size n = length-replicate n 0
+
+domain-size : length (domain (inputs 6 250) .values) ≡ 250
+unfolding domain
+domain-size = length-inputs 6 250
+
+pub start-held : Held startTold (set (replicate 35 (unknown 250)) 10 (domain (inputs 6 250))) startRegisters
+unfolding heldWords fill atStart choose
+start-held = record {
+  told-size = refl;
+  words-size = refl;
+  lanes =
+      sized-set (replicate 35 (unknown 250)) 10 (domain (inputs 6 250)) refl (omega arith) domain-size
+      (λ k h. rw (same-replicate 35 k (unknown 250)) (unknown-size 250));
+  size = refl;
+  same = refl;
+}
