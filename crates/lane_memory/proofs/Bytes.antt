@@ -1,13 +1,14 @@
 -- Laws of the bytes of a word. Assumes nothing.
-use mathlib.Core.List.{List, _∷_, map, map-map}
+use mathlib.Core.List.{List, map, map-map}
 use mathlib.Core.Path.{_≡_, refl, ap, sym, _∙_}
 use Prim.Native.Nat.{ℕ, zero, suc, _+_, _*_, _/_, _%_, _^_, _<_, _≤_}
 use native.Mathlib.Nat.{div-div-eq-div-mul, div-eq-of-lt, pow-succ', pow-le-pow-right}
 use native.Mathlib.Omega.{arith}
-use lib.ListN.{length, replicate, length-map}
+use lib.ListN.{length, length-map}
 use lib.Pow.{pow-add}
 use Rattle.lane_word.specs.declared.LaneWord.{LaneWord}
 use Rattle.lane_word.specs.Word.{constant, unary}
+use Rattle.lane_word.proofs.Told.{unary-constant}
 use Rattle.lane_memory.specs.Rows.{lanes, byteValue, byteOf}
 
 -- a word of 32 bits has four bytes
@@ -46,10 +47,5 @@ unfolding unary
 byte-size k w size = length-map (w .values) (byteValue k) ∙ size
 
 -- a byte of a constant
-map-replicate : (f : ℕ → ℕ) (n v : ℕ) → map f (replicate n v) ≡ replicate n (f v)
-map-replicate f zero v = refl
-map-replicate f (suc n) v = ap (λ (l : List ℕ). f v ∷ l) (map-replicate f n v)
-
 pub byte-constant : (k v : ℕ) → byteOf k (constant lanes v) ≡ constant lanes (byteValue k v)
-unfolding unary constant
-byte-constant k v = rw (map-replicate (byteValue k) lanes v)
+byte-constant k v = unary-constant (byteValue k) lanes v

@@ -6,10 +6,8 @@ use native.Mathlib.Nat.{add-zero}
 use native.Mathlib.Numerals.{add-one}
 use native.Mathlib.Omega.{arith}
 use lib.ListN.{length, getD, take, drop, set, replicate, length-set, length-replicate, drop-of-length-le}
-use lib.Seq.{take-all, take-suc, take-suc-set, drop-cons, getD-set-other, sets}
+use lib.Seq.{take-all, take-suc, take-suc-set, drop-cons, sets}
 use Rattle.little_endian.proofs.SetLaws.{sets-over}
-use Rattle.lane_word.specs.Word.{zip}
-use Rattle.lane_word.proofs.Tab.{Tab, tab-start, tab-step, tab-zip}
 use Rattle.lane_memory.specs.Rows.{findRow, storeRow, storeRows, newAt, newBytes, unmarkRows}
 use Rattle.lane_memory.specs.declared.Found.{Found}
 use Rattle.lane_memory.specs.declared.Found.the-variants.{At, Free, Full}
@@ -68,26 +66,6 @@ module _ {s : List ℕ} {n : ℕ} {out : List ℕ} {k : ℕ} (p : Copying s n ou
 
   pub copy-exit : n ≤ k → out ≡ s
   copy-exit h = rw (take-all k out (omega (arith, p .long)), take-all k s (omega (arith, p .size))) at (p .front)
-
--- ---- in place: the first k of r's n elements are f of l's and theirs, the others are r's still
-
-pub record Zipping (f : ℕ → ℕ → ℕ) (l r : List ℕ) (n : ℕ) (out : List ℕ) (k : ℕ) : Type 0 where
-  pub front : Tab (λ i. f (getD l i 0) (getD r i 0)) n out k
-  pub rest : (i : ℕ) → k ≤ i → getD out i 0 ≡ getD r i 0
-
-pub zip-start : {f : ℕ → ℕ → ℕ} {l r : List ℕ} {n : ℕ} → length r ≡ n → Zipping f l r n r 0
-zip-start e = record { front = tab-start e; rest = λ i h. refl }
-
-module _ {f : ℕ → ℕ → ℕ} {l r : List ℕ} {n : ℕ} {out : List ℕ} {k : ℕ} (s : Zipping f l r n out k) where
-  pub zip-step : {v x : ℕ} → k < n → x ≡ getD l k 0 → v ≡ f x (getD out k 0) → Zipping f l r n (set out k v) (k + 1)
-  zip-step {v} h x e =
-      record {
-        front = tab-step (s .front) h (e ∙ rw (x, s .rest k (omega arith)));
-        rest = λ i b. getD-set-other out k i v 0 (λ q. omega arith) ∙ s .rest i (omega arith);
-      }
-
-  pub zip-exit : n ≤ k → length l ≡ n → length r ≡ n → out ≡ zip f l r
-  zip-exit h e d = tab-zip f l r (s .front) h e d
 
 -- ---- `store`, `store_value`: the first k bytes are stored
 

@@ -34,13 +34,6 @@ module _ {g : ℕ → ℕ} {n : ℕ} {out : List ℕ} {k : ℕ} (t : Tab g n out
       ext-getD 0 out l (t .long ∙ sym e)
       (λ i hi. t .done i (omega (arith, t .long)) ∙ sym (f i (omega (arith, t .long))))
 
--- a loop that fills an array in the place of another's elements: from k on these still stand
-abbrev pub Still : List ℕ → List ℕ → ℕ → Type 0
-Still l out k = (i : ℕ) → k ≤ i → getD out i 0 ≡ getD l i 0
-
-pub still-step : (l out : List ℕ) {k : ℕ} (v : ℕ) → Still l out k → Still l (set out k v) (k + 1)
-still-step l out {k} v h i b = getD-set-other out k i v 0 (λ q. omega arith) ∙ h i (omega arith)
-
 -- the lists that such a loop makes, by their elements
 getD-map : (f : ℕ → ℕ) (l : List ℕ) (i : ℕ) → i < length l → getD (map f l) i 0 ≡ f (getD l i 0)
 getD-map f [] i h = omega arith
@@ -84,3 +77,22 @@ tab-zip f l r t h e d =
 
 pub tab-inputs : (first : ℕ) {n : ℕ} {out : List ℕ} {k : ℕ} → Tab (λ i. first + i) n out k → n ≤ k → out ≡ inputs first n
 tab-inputs first {n} t h = tab-exit t h (inputs first n) (length-inputs first n) (getD-inputs first n)
+
+-- a loop in the place of the right operand: the first k of r's n elements are f of l's and theirs, the others are r's still
+pub record Zipping (f : ℕ → ℕ → ℕ) (l r : List ℕ) (n : ℕ) (out : List ℕ) (k : ℕ) : Type 0 where
+  pub front : Tab (λ i. f (getD l i 0) (getD r i 0)) n out k
+  pub rest : (i : ℕ) → k ≤ i → getD out i 0 ≡ getD r i 0
+
+pub zip-start : {f : ℕ → ℕ → ℕ} {l r : List ℕ} {n : ℕ} → length r ≡ n → Zipping f l r n r 0
+zip-start e = record { front = tab-start e; rest = λ i h. refl }
+
+module _ {f : ℕ → ℕ → ℕ} {l r : List ℕ} {n : ℕ} {out : List ℕ} {k : ℕ} (s : Zipping f l r n out k) where
+  pub zip-step : {v x : ℕ} → k < n → x ≡ getD l k 0 → v ≡ f x (getD out k 0) → Zipping f l r n (set out k v) (k + 1)
+  zip-step {v} h x e =
+      record {
+        front = tab-step (s .front) h (e ∙ rw (x, s .rest k (omega arith)));
+        rest = λ i b. getD-set-other out k i v 0 (λ q. omega arith) ∙ s .rest i (omega arith);
+      }
+
+  pub zip-exit : n ≤ k → length l ≡ n → length r ≡ n → out ≡ zip f l r
+  zip-exit h e d = tab-zip f l r (s .front) h e d

@@ -6,7 +6,7 @@ use Prim.Native.Nat.{ℕ, zero, suc, _+_, _-_, _*_, _%_, _^_, _≤_, _<_}
 use native.Mathlib.Nat.{mod-eq-of-lt}
 use native.Mathlib.Omega.{arith}
 use lib.Dec.{leb, ltb}
-use lib.ListN.{length, length-replicate}
+use lib.ListN.{length}
 use borrow.Author.Tests.{lt-ltb, ltb-true}
 use Rattle.little_endian.specs.Lent.{over}
 use Rattle.riscv32imc.specs.Arithmetic.{mul}
@@ -106,10 +106,6 @@ module _ (image : List ℕ) (symbols : Rv32SymbolLayout) (n entries : ℕ) (s : 
       })
 
 -- ---- before any step
-
-pub word-size : (v : ℕ) → length ((constant 250 v) .values) ≡ 250
-unfolding constant
-word-size v = length-replicate 250 v
 
 -- the stop word's four bytes
 four : (w : LaneWord) → 4 ≡ length (write [] 4 stop w)

@@ -8,7 +8,7 @@ use lib.ListN.{take, drop}
 use Rattle.riscv32imc.specs.Bits.{join}
 use Rattle.lane_memory.specs.Rows.{rowAt, laneByte}
 use Rattle.lane_memory.proofs.Laws.{joined-all, joined-none}
-use Rattle.lane_memory.proofs.Loops.{Zipping, zip-start, zip-step, zip-exit}
+use Rattle.lane_word.proofs.Tab.{Zipping, zip-start, zip-step, zip-exit}
 use Rattle.lane_memory.proofs.RowBytes.{row-values, row-value, row-part}
 use Rattle.lane_memory.proofs.join_lanes.Statement.{statement}
 use Rattle.lane_memory.proofs.join_lanes.Tie as tie

@@ -7,7 +7,7 @@ use lib.ListN.{replicate, length-replicate, getD-replicate}
 use Rattle.riscv32imc.specs.Bits.{join}
 use Rattle.lane_word.specs.Word.{constant}
 use Rattle.lane_memory.proofs.Laws.{joined-all, joined-none}
-use Rattle.lane_memory.proofs.Loops.{Zipping, zip-start, zip-step, zip-exit}
+use Rattle.lane_word.proofs.Tab.{Zipping, zip-start, zip-step, zip-exit}
 use Rattle.lane_memory.proofs.join_value.Statement.{statement}
 use Rattle.lane_memory.proofs.join_value.Tie as tie
 
