@@ -12,7 +12,7 @@ use lib.Dec.{eqb}
 use lib.ListN.{length}
 use Rattle.lane_word.specs.declared.LaneWord.{LaneWord}
 use Rattle.predicate_semantics.specs.Memory.{Written, put}
-use Rattle.lane_memory.specs.Rows.{rowCount, held, probe, scan, findIn, findRow}
+use Rattle.lane_memory.specs.Rows.{rowCount, held, probe, scan, tries, findIn, findRow}
 use Rattle.lane_memory.specs.Holds.{lookup, content, one, used, Table}
 use Rattle.lane_memory.specs.declared.Probe.the-variants.{Empty, Match, Other}
 use Rattle.lane_memory.specs.declared.Found.{Found}
@@ -54,14 +54,14 @@ module _ (T : ℕ → Option Written) (a : ℕ) where
   unfolding scan
   at-has zero s e = absurd (clash (cc))
   at-has (suc n) s e =
-      let p : (probe (T s) a ≡ Match) × (s < suc n) = scan-at (λ x. probe (T x) a) (suc n) (suc n) (a % suc n) s (mod-lt a (omega arith)) e in
+      let p : (probe (T s) a ≡ Match) × (s < suc n) = scan-at (λ x. probe (T x) a) (suc n) (tries (suc n)) (a % suc n) s (mod-lt a (omega arith)) e in
       (match-has (T s) a (p .0), p .1)
 
   pub free-none : (n s : ℕ) → findIn T n a ≡ Free s → (T s ≡ none) × (s < n)
   unfolding scan
   free-none zero s e = absurd (clash (cc))
   free-none (suc n) s e =
-      let p : (probe (T s) a ≡ Empty) × (s < suc n) = scan-free (λ x. probe (T x) a) (suc n) (suc n) (a % suc n) s (mod-lt a (omega arith)) e in
+      let p : (probe (T s) a ≡ Empty) × (s < suc n) = scan-free (λ x. probe (T x) a) (suc n) (tries (suc n)) (a % suc n) s (mod-lt a (omega arith)) e in
       (empty-none (T s) a (p .0), p .1)
 
   pub full-used : (n : ℕ) → findIn T n a ≡ Full → used T n ≡ n
@@ -147,9 +147,9 @@ module _ (T T′ : ℕ → Option Written) (n s a : ℕ) (b : LaneWord) (below :
         ⊎-elim
         (λ (z : t ≡ s).
         rw (← is-new t w z p, z)
-        (scan-new (λ x. probe (T x) a) (λ x. probe (T′ x) a) n (P a) s (rw (new, eq-eqb a a refl)) n (a % n) e))
+        (scan-new (λ x. probe (T x) a) (λ x. probe (T′ x) a) n (P a) s (rw (new, eq-eqb a a refl)) (tries n) (a % n) e))
         (λ (d : t ≡ s → ⊥).
-        scan-keep (λ x. probe (T x) (w .address)) (λ x. probe (T′ x) (w .address)) n (P (w .address)) n (w .address % n) t
+        scan-keep (λ x. probe (T x) (w .address)) (λ x. probe (T′ x) (w .address)) n (P (w .address)) (tries n) (w .address % n) t
         (H .found t w h (sym (kept t d) ∙ p)))
         (same? t s) in
         record {
@@ -167,7 +167,7 @@ module _ (T T′ : ℕ → Option Written) (n s a : ℕ) (b : LaneWord) (below :
         (λ (z : t ≡ s). rw (z, new, i .is, i .its))
         (λ (d : t ≡ s → ⊥). ap (λ (o : Option Written). probe o x) (kept t d))
         (same? t s) in
-        let F : (x : ℕ) → findIn T′ n x ≡ findIn T n x = λ x. scan-same (λ t. probe (T t) x) (λ t. probe (T′ t) x) n (P x) n (x % n) in
+        let F : (x : ℕ) → findIn T′ n x ≡ findIn T n x = λ x. scan-same (λ t. probe (T t) x) (λ t. probe (T′ t) x) n (P x) (tries n) (x % n) in
         let f′ : Finds T′ = λ t w h p.
         F (w .address) ∙
         ⊎-elim

@@ -3,7 +3,7 @@ use mathlib.Core.Bool.{Bool, true, false, cond, not}
 use mathlib.Core.List.{List, [], _∷_, _++_}
 use mathlib.Core.Option.{Option, none, some}
 use mathlib.Core.Path.{_≡_}
-use Prim.Native.Nat.{ℕ, zero, suc, _+_, _*_, _/_, _%_, _^_}
+use Prim.Native.Nat.{ℕ, zero, suc, _+_, _-_, _*_, _/_, _%_, _^_}
 use lib.Dec.{eqb, ltb}
 use lib.ListN.{length, getD, take, drop, set, replicate}
 use lib.Seq.{sets}
@@ -66,14 +66,29 @@ ending Empty s rest = Free s
 ending Match s rest = At s
 ending Other s rest = rest
 
+-- a hop: about 0.618 of n rows on, round the end, so that hops in a row come to rows far apart
+abbrev pub stride : ℕ → ℕ
+stride n = n / 2 + n / 8 - n / 128
+
+abbrev pub hop : ℕ → ℕ → ℕ
+hop n s = cond (ltb (s + stride n) n) (s + stride n) (s + stride n - n)
+
+-- the row after row s, where j more are to be looked at: the last n of them are all n rows, one after another
+abbrev pub onward : ℕ → ℕ → ℕ → ℕ
+onward n j s = cond (ltb j n) (next n s) (hop n s)
+
 -- the search through j of n rows from row s on
 unfoldable pub scan : (ℕ → Probe) → ℕ → ℕ → ℕ → Found
 scan P n zero s = Full
-scan P n (suc j) s = ending (P s) s (scan P n j (next n s))
+scan P n (suc j) s = ending (P s) s (scan P n j (onward n j s))
 
--- open addressing: all n rows, from the address's remainder on
+-- 32 hops before all n rows, where there are as many
+abbrev pub tries : ℕ → ℕ
+tries n = cond (ltb n 32) n (n + 32)
+
+-- open addressing: hops from the address's remainder on, then all n rows
 abbrev pub findIn : (ℕ → Option Written) → ℕ → ℕ → Found
-findIn T n a = scan (λ s. probe (T s) a) n n (a % n)
+findIn T n a = scan (λ s. probe (T s) a) n (tries n) (a % n)
 
 abbrev pub findRow : List ℕ → ℕ → Found
 findRow memory a = findIn (held memory) (rowCount memory) a

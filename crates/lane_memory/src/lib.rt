@@ -2,12 +2,12 @@
 ghost use mathlib.Core.Path.{_≡_};
 ghost use mathlib.Core.Bool.{cond};
 ghost use mathlib.Core.List.{map};
-ghost use Prim.Native.Nat.{_+_, _*_, _<_, _≤_};
+ghost use Prim.Native.Nat.{_+_, _*_, _<_, _≤_, _^_};
 ghost use lib.ListN.{length};
 ghost use lib.Seq.{sets};
 ghost use Rattle.lane_word.specs.Word.{constant};
 ghost use Rattle.predicate_semantics.specs.Memory.{Written};
-ghost use Rattle.lane_memory.specs.Rows.{lanes, held, probe, next, rowCount, findRow, byteValue, byteOf, headOf, laneRow, valueRow, writeRow, storeByte, storeValue, storeBytes, storeValues, rowAt, laneByte, rowByte, loadByte, joined, Joined, toldRow, toldByte, newAt, newBytes, unmarked, cleared};
+ghost use Rattle.lane_memory.specs.Rows.{lanes, held, probe, next, hop, onward, tries, rowCount, findRow, byteValue, byteOf, headOf, laneRow, valueRow, writeRow, storeByte, storeValue, storeBytes, storeValues, rowAt, laneByte, rowByte, loadByte, joined, Joined, toldRow, toldByte, newAt, newBytes, unmarked, cleared};
 use lane_word::LaneWord;
 use lane_word::Uniform;
 use riscv32imc::arithmetic::Binary;
@@ -60,6 +60,37 @@ fn after(row: usize, count: usize) -> usize
     if row + 1 < count { row + 1 } else { 0 }
 }
 
+// About 0.618 of the rows further: rows whose remainders meet part at the first hop.
+fn hop(row: usize, count: usize) -> usize
+    requires { ⌜ row < count ⌝ }
+    ensures { λ r. ⌜ r ≡ hop count row ⌝ }
+{
+    let stride = count / 2 + count / 8 - count / 128;
+    if row < count - stride {
+        return row + stride;
+    }
+    row - (count - stride)
+}
+
+// The next row of a search that has `left` rows more: hops, then every row.
+fn onward(row: usize, count: usize, left: usize) -> usize
+    requires { ⌜ row < count ⌝ }
+    ensures { λ r. ⌜ r ≡ onward count left row ⌝ }
+{
+    if left < count {
+        return after(row, count);
+    }
+    hop(row, count)
+}
+
+// How many rows a search looks at: 32 hops first, where there are as many rows.
+fn tries(count: usize) -> usize
+    requires { ⌜ count + 32 < 2 ^ 64 ⌝ }
+    ensures { λ r. ⌜ r ≡ tries count ⌝ }
+{
+    if count < 32 { count } else { count + 32 }
+}
+
 // The row of an address, or one that it can take.
 pub fn find(rows: &[u8], address: u32) -> Found
     ensures { λ r. ⌜ r ≡ findRow (now (rows .entry)) address ⌝ }
@@ -69,7 +100,7 @@ pub fn find(rows: &[u8], address: u32) -> Found
         return Found::Full;
     }
     let mut row = (address as usize) % count;
-    let mut left = count;
+    let mut left = tries(count);
     while 0 < left {
         let seen = look(rows, row, address);
         match seen {
@@ -77,8 +108,8 @@ pub fn find(rows: &[u8], address: u32) -> Found
             Probe::Match => return Found::At(row),
             Probe::Other => {}
         }
-        row = after(row, count);
         left -= 1;
+        row = onward(row, count, left);
     }
     Found::Full
 }
