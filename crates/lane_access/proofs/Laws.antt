@@ -9,7 +9,7 @@ use lib.Dec.{eqb, ltb}
 use lib.ListN.{length, List·getD-eq-default}
 use Rattle.riscv32imc.specs.Constants.{imageBase}
 use Rattle.lane_word.specs.declared.LaneWord.{LaneWord}
-use Rattle.lane_word.specs.Word.{constant, unary}
+use Rattle.lane_word.specs.Word.{constant, unary, lanes}
 use Rattle.predicate_semantics.specs.Choice.{choose}
 use Rattle.predicate_semantics.specs.Program.{initial}
 use Rattle.predicate_semantics.specs.Memory.{Written, byteAt, put, write, laneBytes}
@@ -26,13 +26,13 @@ unfolding byteAt choose
 byte-below other e a [] h k = refl
 byte-below other e a (w ∷ m) h k = rw (ne-eqb (w .address) a (λ q. omega (arith, q, h, k .0))) (byte-below other e a m h (k .1))
 
-pub seen-holds : (image rows : List ℕ) (n : ℕ) (m : List Written) → Holds rows n m → Above (imageBase + length image) m → seen image rows ≡ laneBytes image 250 m
+pub seen-holds : (image rows : List ℕ) (n : ℕ) (m : List Written) → Holds rows n m → Above (imageBase + length image) m → seen image rows ≡ laneBytes image lanes m
 unfolding seen laneBytes initial
 seen-holds image rows n m h k = fun-ext (λ a. go a (ltb (offsetOf a) (length image)) refl)
   where
     go : (a : ℕ) (b : Bool) → ltb (offsetOf a) (length image) ≡ b
-        → cond b (constant 250 (initial image a)) (loadByte rows a 0) ≡ byteAt (constant 250 (initial image a)) a m
-    go a true e = sym (byte-below (constant 250 (initial image a)) (imageBase + length image) a m (omega (arith, ltb-true (offsetOf a) (length image) e)) k)
+        → cond b (constant lanes (initial image a)) (loadByte rows a 0) ≡ byteAt (constant lanes (initial image a)) a m
+    go a true e = sym (byte-below (constant lanes (initial image a)) (imageBase + length image) a m (omega (arith, ltb-true (offsetOf a) (length image) e)) k)
     go a false e = rw (List·getD-eq-default image 0 (ltb-false (offsetOf a) (length image) e)) (holds-load h a 0)
 
 -- a store at or above a number keeps every written address there

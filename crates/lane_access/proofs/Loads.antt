@@ -16,7 +16,7 @@ use Rattle.riscv32imc.specs.Constants.{imageBase}
 use Rattle.lane_word.specs.declared.LaneWord.{LaneWord}
 use Rattle.lane_word.specs.declared.Uniform.{Uniform}
 use Rattle.lane_word.specs.declared.Uniform.the-variants.{Value, Unknown, Uneven}
-use Rattle.lane_word.specs.Word.{constant, binary, zip, every, inputs, uniformOf}
+use Rattle.lane_word.specs.Word.{constant, binary, zip, every, inputs, uniformOf, firstInput, lanes}
 use Rattle.lane_word.specs.Told.{toldBy, Tells}
 use Rattle.lane_word.proofs.Tab.{length-inputs}
 use Rattle.lane_word.proofs.Told.{binary-constants, uniform-constant}
@@ -41,22 +41,22 @@ tested role v true true = refl
 tested role v true false = refl
 tested role v false c = refl
 
-pub agreed-is : (role : ℕ) (w : LaneWord) → agreed (inputs 6 250) role w ≡ testedAs role (uniformOf w)
+pub agreed-is : (role : ℕ) (w : LaneWord) → agreed (inputs firstInput lanes) role w ≡ testedAs role (uniformOf w)
 unfolding agreed uniform uniformOf
 agreed-is role w = tested role (getD (w .values) 0 0) (w .known) (every (getD (w .values) 0 0) (w .values))
 
 -- a constant passes every uniform test
-pub agreed-constant : (role v : ℕ) → agreed (inputs 6 250) role (constant 250 v) ≡ passed v
-agreed-constant role v = agreed-is role (constant 250 v) ∙ ap (testedAs role) (uniform-constant 250 v (omega arith))
+pub agreed-constant : (role v : ℕ) → agreed (inputs firstInput lanes) role (constant lanes v) ≡ passed v
+agreed-constant role v = agreed-is role (constant lanes v) ∙ ap (testedAs role) (uniform-constant lanes v (omega arith))
 
 -- a byte of the image
-pub seen-image : (image rows : List ℕ) (a : ℕ) → offsetOf a < length image → seen image rows a ≡ constant 250 (getD image (offsetOf a) 0)
+pub seen-image : (image rows : List ℕ) (a : ℕ) → offsetOf a < length image → seen image rows a ≡ constant lanes (getD image (offsetOf a) 0)
 unfolding seen initial
 seen-image image rows a h = rw (lt-ltb _ _ h)
 
 -- the byte by the code's test
 module _ (image rows : List ℕ) (a : ℕ) {b : Bool} (is : b ≡ ltb (offsetOf a) (length image)) where
-  pub seen-within : b ≡ true → seen image rows a ≡ constant 250 (initial image a)
+  pub seen-within : b ≡ true → seen image rows a ≡ constant lanes (initial image a)
   unfolding seen
   seen-within h = rw (sym is ∙ h)
 
@@ -68,10 +68,10 @@ module _ (image rows : List ℕ) (a : ℕ) {b : Bool} (is : b ≡ ltb (offsetOf 
 
 -- what the bytes from one on come to
 abbrev pub rest : LaneBytes → ℕ → ℕ → ℕ → LaneWord
-rest memory n a left = read 250 memory (n - left) (a + left)
+rest memory n a left = read lanes memory (n - left) (a + left)
 
 module _ (memory : LaneBytes) (n a : ℕ) where
-  pub rest-none : rest memory n a n ≡ constant 250 0
+  pub rest-none : rest memory n a n ≡ constant lanes 0
   unfolding read
   rest-none = let z : n - n ≡ 0 = omega arith in rw z
 
@@ -82,7 +82,7 @@ module _ (memory : LaneBytes) (n a : ℕ) where
       let f : suc (a + (left - 1)) ≡ a + left = omega arith in
       rw (e, f)
 
-  pub rest-all : (left : ℕ) → left ≤ 0 → rest memory n a left ≡ read 250 memory n a
+  pub rest-all : (left : ℕ) → left ≤ 0 → rest memory n a left ≡ read lanes memory n a
   rest-all left h =
       let z : left ≡ 0 = omega arith in
       let e : n - 0 ≡ n = omega arith in
@@ -100,7 +100,7 @@ tells-byte rows a other = go (toldByte rows a other) refl
     go Uneven e = tt
 
 pub tells-by : (f : ℕ → ℕ → ℕ) (u v : Uniform) (x y : LaneWord) → Tells u x → Tells v y → Tells (toldBy f u v) (binary f x y)
-tells-by f (Value a) (Value b) x y p q = rw (p, q) (binary-constants f 250 a b)
+tells-by f (Value a) (Value b) x y p q = rw (p, q) (binary-constants f lanes a b)
 tells-by f (Value a) Unknown x y p q = tt
 tells-by f (Value a) Uneven x y p q = tt
 tells-by f Unknown v x y p q = tt
@@ -121,7 +121,7 @@ join-small x y n hx hy hn =
 
 -- a number that lies whole in the image is read as a constant
 pub read-image : (image rows : List ℕ) → AllBytes image → (n a : ℕ) → n ≤ 4 → imageBase ≤ a → offsetOf a + n ≤ length image
-    → read 250 (seen image rows) n a ≡ constant 250 (value (take n (drop (offsetOf a) image)))
+    → read lanes (seen image rows) n a ≡ constant lanes (value (take n (drop (offsetOf a) image)))
 unfolding read
 read-image image rows h zero a k l f = refl
 read-image image rows h (suc n) a k l f =
@@ -132,15 +132,15 @@ read-image image rows h (suc n) a k l f =
     let b : value rest < 256 ^ length rest = value-below rest (below-take n (drop (suc o) image) (below-drop (suc o) image h)) in
     let b' : value rest < 256 ^ n = rw size at b in
     let j : join (getD image o 0) (value rest) ≡ getD image o 0 + 256 * value rest = join-small _ _ n (h o) b' (omega arith) in
-    let ih : read 250 (seen image rows) n (suc a) ≡ constant 250 (value rest)
+    let ih : read lanes (seen image rows) n (suc a) ≡ constant lanes (value rest)
     = rw e at (read-image image rows h n (suc a) (omega arith) (omega arith) (omega arith)) in
-    rw (seen-image image rows a (omega arith), ih, binary-constants join 250 _ _, j, drop-cons image o 0 (omega arith))
+    rw (seen-image image rows a (omega arith), ih, binary-constants join lanes _ _, j, drop-cons image o 0 (omega arith))
 
 -- a number lies there where as many bytes are left from its offset on
 pub lies-left : (image : List ℕ) (a o v n : ℕ) → n ≤ 4 → o ≡ offsetOf a → o < length image → leb n (length image - o) ≡ true → v ≡ value (take n (drop o image)) → Lies v image a n
 lies-left image a o v n k e h b is = record { small = k; inside = omega (arith, e, h, leb-true n (length image - o) b); is = rw (← e) is }
 
-pub lies-read : (image rows : List ℕ) → AllBytes image → (v n a : ℕ) → imageBase ≤ a → Lies v image a n → read 250 (seen image rows) n a ≡ constant 250 v
+pub lies-read : (image rows : List ℕ) → AllBytes image → (v n a : ℕ) → imageBase ≤ a → Lies v image a n → read lanes (seen image rows) n a ≡ constant lanes v
 lies-read image rows h v n a l f = rw (f .is) (read-image image rows h n a (f .small) l (f .inside))
 
 -- ---- a load after its range, and what its lanes agree on
@@ -163,20 +163,20 @@ accessed-word verdict.Passed x w e = cc
 accessed-word (verdict.Refused r) x w e = absurd (clash (cc))
 
 module _ (memory : LaneBytes) (n a : ℕ) where
-  pub access-inside : inside a n ≡ passed tt → access (inputs 6 250) memory n a ≡ passed (read 250 memory n a)
+  pub access-inside : inside a n ≡ passed tt → access (inputs firstInput lanes) memory n a ≡ passed (read lanes memory n a)
   unfolding access _>>=_
-  access-inside h = rw (h, length-inputs 6 250)
+  access-inside h = rw (h, length-inputs firstInput lanes)
 
-  pub access-outside : (r : Refusal) → inside a n ≡ refused r → access (inputs 6 250) memory n a ≡ refused r
+  pub access-outside : (r : Refusal) → inside a n ≡ refused r → access (inputs firstInput lanes) memory n a ≡ refused r
   unfolding access _>>=_
   access-outside r h = rw h
 
   module _ (role : ℕ) where
-    pub agreed-inside : inside a n ≡ passed tt → accessAgreed (inputs 6 250) role memory n a ≡ agreed (inputs 6 250) role (read 250 memory n a)
+    pub agreed-inside : inside a n ≡ passed tt → accessAgreed (inputs firstInput lanes) role memory n a ≡ agreed (inputs firstInput lanes) role (read lanes memory n a)
     unfolding accessAgreed _>>=_
     agreed-inside h = rw (access-inside h)
 
-    pub agreed-outside : (r : Refusal) → inside a n ≡ refused r → accessAgreed (inputs 6 250) role memory n a ≡ refused r
+    pub agreed-outside : (r : Refusal) → inside a n ≡ refused r → accessAgreed (inputs firstInput lanes) role memory n a ≡ refused r
     unfolding accessAgreed _>>=_
     agreed-outside r h = rw (access-outside r h)
 
@@ -189,21 +189,21 @@ first-join [] ys n hx hy hn = omega (arith, pow-suc 256 n)
 first-join (x ∷ xs) [] n hx hy hn = omega (arith, pow-suc 256 n)
 first-join (x ∷ xs) (y ∷ ys) n hx hy hn = rw (join-small x y n hx hy hn) (omega (arith, pow-suc 256 n))
 
-first-read : (memory : LaneBytes) → ((a : ℕ) → getD (memory a .values) 0 0 < 256) → (n a : ℕ) → n ≤ 4 → getD (read 250 memory n a .values) 0 0 < 256 ^ n
+first-read : (memory : LaneBytes) → ((a : ℕ) → getD (memory a .values) 0 0 < 256) → (n a : ℕ) → n ≤ 4 → getD (read lanes memory n a .values) 0 0 < 256 ^ n
 unfolding read binary constant
 first-read memory h zero a k = omega arith
 first-read memory h (suc n) a k =
-    first-join (memory a .values) (read 250 memory n (suc a) .values) n (h a) (first-read memory h n (suc a) (omega arith)) (omega arith)
+    first-join (memory a .values) (read lanes memory n (suc a) .values) n (h a) (first-read memory h n (suc a) (omega arith)) (omega arith)
 
 first-seen : (image rows : List ℕ) → AllBytes image → AllBytes rows → (a : ℕ) → getD (seen image rows a .values) 0 0 < 256
 unfolding seen initial constant
 first-seen image rows h k a = go (ltb (offsetOf a) (length image))
   where
-    go : (b : Bool) → getD (cond b (constant 250 (initial image a)) (loadByte rows a 0) .values) 0 0 < 256
+    go : (b : Bool) → getD (cond b (constant lanes (initial image a)) (loadByte rows a 0) .values) 0 0 < 256
     go true = h (offsetOf a)
     go false = load-below rows a 0 k (omega arith) 0
 
-agreed-first : (role v : ℕ) (w : LaneWord) → agreed (inputs 6 250) role w ≡ passed v → getD (w .values) 0 0 ≡ v
+agreed-first : (role v : ℕ) (w : LaneWord) → agreed (inputs firstInput lanes) role w ≡ passed v → getD (w .values) 0 0 ≡ v
 unfolding agreed uniform choose refuse
 agreed-first role v w h = go (w .known) (every (getD (w .values) 0 0) (w .values)) h
   where
@@ -212,13 +212,13 @@ agreed-first role v w h = go (w .known) (every (getD (w .values) 0 0) (w .values
     go true false h = absurd (clash (cc))
     go false c h = absurd (clash (cc))
 
-pub half-below : (image rows : List ℕ) → AllBytes image → AllBytes rows → (role a v : ℕ) → accessAgreed (inputs 6 250) role (seen image rows) 2 a ≡ passed v → v < 65536
+pub half-below : (image rows : List ℕ) → AllBytes image → AllBytes rows → (role a v : ℕ) → accessAgreed (inputs firstInput lanes) role (seen image rows) 2 a ≡ passed v → v < 65536
 half-below image rows h k role a v e = go (inside a 2) refl
   where
     go : (t : Tested (Unit {0})) → inside a 2 ≡ t → v < 65536
     go (passed tt) p =
-        let f : getD (read 250 (seen image rows) 2 a .values) 0 0 ≡ v
-        = agreed-first role v (read 250 (seen image rows) 2 a) (sym (agreed-inside (seen image rows) 2 a role p) ∙ e) in
+        let f : getD (read lanes (seen image rows) 2 a .values) 0 0 ≡ v
+        = agreed-first role v (read lanes (seen image rows) 2 a) (sym (agreed-inside (seen image rows) 2 a role p) ∙ e) in
         rw f at (first-read (seen image rows) (first-seen image rows h k) 2 a (omega arith))
     go (refused r) p = let q : refused r ≡ passed v = sym (agreed-outside (seen image rows) 2 a role r p) ∙ e in absurd (clash (cc))
 
@@ -230,16 +230,16 @@ bind-bind (passed a) f g = refl
 bind-bind (refused r) f g = refl
 
 module _ (memory : LaneBytes) (pc steps : ℕ) where
-  pub fetch-refused : (r : Refusal) → accessAgreed (inputs 6 250) 1 memory 2 pc ≡ refused r → fetch (inputs 6 250) standingCore memory steps pc ≡ refused r
+  pub fetch-refused : (r : Refusal) → accessAgreed (inputs firstInput lanes) 1 memory 2 pc ≡ refused r → fetch (inputs firstInput lanes) standingCore memory steps pc ≡ refused r
   unfolding fetch fetchWord _>>=_
   fetch-refused r h = rw h
 
-  pub fetch-whole : (half : ℕ) → accessAgreed (inputs 6 250) 1 memory 2 pc ≡ passed half → half % 4 ≡ 3
-      → fetch (inputs 6 250) standingCore memory steps pc ≡ fourAs memory pc
+  pub fetch-whole : (half : ℕ) → accessAgreed (inputs firstInput lanes) 1 memory 2 pc ≡ passed half → half % 4 ≡ 3
+      → fetch (inputs firstInput lanes) standingCore memory steps pc ≡ fourAs memory pc
   unfolding fetch fetchWord fourAs decodedAs standingCore choose _>>=_
-  fetch-whole half h e = rw (h, eq-eqb (half % 4) 3 e) (bind-bind (accessAgreed (inputs 6 250) 1 memory 4 pc) _ _)
+  fetch-whole half h e = rw (h, eq-eqb (half % 4) 3 e) (bind-bind (accessAgreed (inputs firstInput lanes) 1 memory 4 pc) _ _)
 
-  pub fetch-half : (half : ℕ) → accessAgreed (inputs 6 250) 1 memory 2 pc ≡ passed half → (half % 4 ≡ 3 → ⊥)
-      → fetch (inputs 6 250) standingCore memory steps pc ≡ expandedAs half
+  pub fetch-half : (half : ℕ) → accessAgreed (inputs firstInput lanes) 1 memory 2 pc ≡ passed half → (half % 4 ≡ 3 → ⊥)
+      → fetch (inputs firstInput lanes) standingCore memory steps pc ≡ expandedAs half
   unfolding fetch fetchWord expandedAs decodedAs standingCore choose _>>=_
   fetch-half half h e = rw (h, ne-eqb (half % 4) 3 e) (bind-bind (found 8 (standingCore .expand half)) _ _)

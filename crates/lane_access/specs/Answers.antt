@@ -5,7 +5,7 @@ use Rattle.riscv_decode.specs.declared.Fetched.{Fetched}
 use Rattle.lane_word.specs.declared.LaneWord.{LaneWord}
 use Rattle.lane_word.specs.declared.Uniform.{Uniform}
 use Rattle.lane_word.specs.declared.Uniform.the-variants.{Value, Unknown, Uneven}
-use Rattle.lane_word.specs.Word.{constant, inputs}
+use Rattle.lane_word.specs.Word.{constant, inputs, firstInput, lanes}
 use Rattle.predicate_semantics.specs.Refusal.{Refusal, Tested, passed, refused, refuse, _>>=_, found}
 use Rattle.predicate_semantics.specs.Memory.{LaneBytes, read}
 use Rattle.predicate_semantics.specs.Lane.{inside, accessAgreed}
@@ -78,7 +78,7 @@ accessedOf a = loadedAs (a .verdict) (a .word)
 
 -- a load that has passed its range is one value in every lane, or lanes; else its refusal
 abbrev pub LoadsAs : LaneBytes → ℕ → ℕ → Loading → Type 0
-LoadsAs memory n a (loading.Value v) = (inside a n ≡ passed tt) × (read 250 memory n a ≡ constant 250 v)
+LoadsAs memory n a (loading.Value v) = (inside a n ≡ passed tt) × (read lanes memory n a ≡ constant lanes v)
 LoadsAs memory n a loading.Lanes = inside a n ≡ passed tt
 LoadsAs memory n a (loading.Refused e) = inside a n ≡ refused (refusalOf e)
 
@@ -99,5 +99,5 @@ expandedAs half = do
 
 unfoldable pub fourAs : LaneBytes → ℕ → Tested Fetched
 fourAs memory pc = do
-  word ← accessAgreed (inputs 6 250) 1 memory 4 pc
+  word ← accessAgreed (inputs firstInput lanes) 1 memory 4 pc
   decodedAs word 4

@@ -7,7 +7,7 @@ use lib.Dec.{ltb}
 use lib.ListN.{length, take, drop}
 use Rattle.little_endian.specs.Number.{value}
 use Rattle.riscv32imc.specs.Constants.{imageBase}
-use Rattle.lane_word.specs.Word.{constant}
+use Rattle.lane_word.specs.Word.{constant, lanes}
 use Rattle.predicate_semantics.specs.Program.{initial}
 use Rattle.predicate_semantics.specs.Memory.{Written, LaneBytes}
 use Rattle.lane_memory.specs.Rows.{loadByte}
@@ -20,7 +20,7 @@ offsetOf a = a - imageBase
 
 -- below the image's end nothing is written
 unfoldable pub seen : List ℕ → List ℕ → LaneBytes
-seen image rows a = cond (ltb (offsetOf a) (length image)) (constant 250 (initial image a)) (loadByte rows a 0)
+seen image rows a = cond (ltb (offsetOf a) (length image)) (constant lanes (initial image a)) (loadByte rows a 0)
 
 -- every written address is at or above a number: a store below the image's end is refusal 11
 abbrev pub Above : ℕ → List Written → Type 0

@@ -5,7 +5,7 @@ ghost use Prim.Native.Nat.{ℕ, _+_, _≤_, _^_};
 ghost use lib.Dec.{ltb};
 ghost use lib.ListN.{length};
 ghost use Rattle.riscv32imc.specs.Constants.{imageBase};
-ghost use Rattle.lane_word.specs.Word.{inputs};
+ghost use Rattle.lane_word.specs.Word.{inputs, firstInput, lanes};
 ghost use Rattle.lane_word.specs.Told.{Tells};
 ghost use Rattle.predicate_semantics.specs.Program.{initial};
 ghost use Rattle.predicate_semantics.specs.Memory.{read};
@@ -109,7 +109,7 @@ pub fn agreed_in(tested: Uniform, role: Role) -> Agreed
 
 // The lanes' common value, or the refusal in this role.
 pub fn agree(word: LaneWord, role: Role) -> Agreed
-    ensures { λ r. ⌜ agreedOf r ≡ agreed (inputs 6 250) (roleOf role) word ⌝ }
+    ensures { λ r. ⌜ agreedOf r ≡ agreed (inputs firstInput lanes) (roleOf role) word ⌝ }
 {
     agreed_in(word.uniform_known(), role)
 }
@@ -158,9 +158,9 @@ fn join_at(image: &[u8], rows: &[u8], address: u32, values: &mut [u32]) -> bool
 // The bytes from an address as one word, joined from the highest down.
 fn join_bytes(image: &[u8], rows: &[u8], address: u32, width: u32) -> LaneWord
     requires { ⌜ address + width ≤ 2 ^ 32 ⌝ }
-    ensures { λ r. ⌜ r ≡ read 250 (seen (now (image .entry)) (now (rows .entry))) width address ⌝ }
+    ensures { λ r. ⌜ r ≡ read lanes (seen (now (image .entry)) (now (rows .entry))) width address ⌝ }
 {
-    let mut values = [0u32; 250];
+    let mut values = [0u32; LaneWord::LANES];
     let mut known = true;
     let mut left = width;
     while 0 < left {
@@ -183,7 +183,7 @@ fn told_at(image: &[u8], rows: &[u8], address: u32) -> Uniform
 // What the bytes' values tell, joined as the bytes are; one byte without a value leaves the number to its lanes.
 fn told_join(image: &[u8], rows: &[u8], address: u32, width: u32) -> Uniform
     requires { ⌜ address + width ≤ 2 ^ 32 ⌝ }
-    ensures { λ r. ⌜ Tells r (read 250 (seen (now (image .entry)) (now (rows .entry))) width address) ⌝ }
+    ensures { λ r. ⌜ Tells r (read lanes (seen (now (image .entry)) (now (rows .entry))) width address) ⌝ }
 {
     let mut told = Uniform::Value(0);
     let mut left = width;
@@ -223,7 +223,7 @@ fn image_number(image: &[u8], address: u32, width: u32) -> ImageNumber
 // What one value tells of the bytes from an address on.
 fn told_bytes(image: &[u8], rows: &[u8], address: u32, width: u32) -> Uniform
     requires { ⌜ (imageBase ≤ address) × (address + width ≤ 2 ^ 32) ⌝ }
-    ensures { λ r. ⌜ Tells r (read 250 (seen (now (image .entry)) (now (rows .entry))) width address) ⌝ }
+    ensures { λ r. ⌜ Tells r (read lanes (seen (now (image .entry)) (now (rows .entry))) width address) ⌝ }
 {
     let number = image_number(image, address, width);
     match number {
@@ -249,7 +249,7 @@ pub fn load(image: &[u8], rows: &[u8], address: u32, width: u32) -> Loading
 
 // A load lane by lane: range, then the bytes.
 pub fn access(image: &[u8], rows: &[u8], address: u32, width: u32) -> Accessed
-    ensures { λ r. ⌜ accessedOf r ≡ access (inputs 6 250) (seen (now (image .entry)) (now (rows .entry))) width address ⌝ }
+    ensures { λ r. ⌜ accessedOf r ≡ access (inputs firstInput lanes) (seen (now (image .entry)) (now (rows .entry))) width address ⌝ }
 {
     let range = range_of(address, width);
     if let Verdict::Refused(error) = range {
@@ -266,7 +266,7 @@ pub fn access(image: &[u8], rows: &[u8], address: u32, width: u32) -> Accessed
 
 // A load that has to be uniform; what one value tells is.
 pub fn access_agreed(image: &[u8], rows: &[u8], address: u32, width: u32, role: Role) -> Agreed
-    ensures { λ r. ⌜ agreedOf r ≡ accessAgreed (inputs 6 250) (roleOf role) (seen (now (image .entry)) (now (rows .entry))) width address ⌝ }
+    ensures { λ r. ⌜ agreedOf r ≡ accessAgreed (inputs firstInput lanes) (roleOf role) (seen (now (image .entry)) (now (rows .entry))) width address ⌝ }
 {
     let loading = load(image, rows, address, width);
     match loading {
@@ -315,7 +315,7 @@ fn fetch_four(image: &[u8], rows: &[u8], pc: u32) -> Fetching
 
 // Fetch: two bytes; expansion, or four bytes; the word's operation. The table is one for the whole run.
 pub fn fetch(image: &[u8], rows: &[u8], pc: u32) -> Fetching
-    ensures { λ r. ⌜ ((steps : ℕ) → fetchingOf r ≡ fetch (inputs 6 250) standingCore (seen (now (image .entry)) (now (rows .entry))) steps pc) ⌝ }
+    ensures { λ r. ⌜ ((steps : ℕ) → fetchingOf r ≡ fetch (inputs firstInput lanes) standingCore (seen (now (image .entry)) (now (rows .entry))) steps pc) ⌝ }
 {
     let low = access_agreed(image, rows, pc, 2, Role::Fetch);
     match low {

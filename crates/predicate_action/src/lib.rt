@@ -207,44 +207,14 @@ pub fn first_source(action: Action) -> u32
 {
     match action {
         Action::Nothing => 0,
-        Action::Literal { rd: _, value: _ } => 0,
-        Action::Compute {
-            rd: _,
-            function: _,
-            rs1,
-            rs2: _,
-        } => rs1,
-        Action::ComputeImmediate {
-            rd: _,
-            function: _,
-            rs1,
-            immediate: _,
-        } => rs1,
-        Action::Jump { rd: _, target: _ } => 0,
-        Action::JumpTo {
-            rd: _,
-            rs1,
-            offset: _,
-        } => rs1,
-        Action::Branch {
-            test: _,
-            rs1,
-            rs2: _,
-            target: _,
-        } => rs1,
-        Action::Load {
-            rd: _,
-            rs1,
-            offset: _,
-            width: _,
-            extension: _,
-        } => rs1,
-        Action::Store {
-            rs1,
-            rs2: _,
-            offset: _,
-            width: _,
-        } => rs1,
+        Action::Literal { .. } => 0,
+        Action::Compute { rs1, .. } => rs1,
+        Action::ComputeImmediate { rs1, .. } => rs1,
+        Action::Jump { .. } => 0,
+        Action::JumpTo { rs1, .. } => rs1,
+        Action::Branch { rs1, .. } => rs1,
+        Action::Load { rs1, .. } => rs1,
+        Action::Store { rs1, .. } => rs1,
     }
 }
 
@@ -253,44 +223,14 @@ pub fn second_source(action: Action) -> u32
 {
     match action {
         Action::Nothing => 0,
-        Action::Literal { rd: _, value: _ } => 0,
-        Action::Compute {
-            rd: _,
-            function: _,
-            rs1: _,
-            rs2,
-        } => rs2,
-        Action::ComputeImmediate {
-            rd: _,
-            function: _,
-            rs1: _,
-            immediate: _,
-        } => 0,
-        Action::Jump { rd: _, target: _ } => 0,
-        Action::JumpTo {
-            rd: _,
-            rs1: _,
-            offset: _,
-        } => 0,
-        Action::Branch {
-            test: _,
-            rs1: _,
-            rs2,
-            target: _,
-        } => rs2,
-        Action::Load {
-            rd: _,
-            rs1: _,
-            offset: _,
-            width: _,
-            extension: _,
-        } => 0,
-        Action::Store {
-            rs1: _,
-            rs2,
-            offset: _,
-            width: _,
-        } => rs2,
+        Action::Literal { .. } => 0,
+        Action::Compute { rs2, .. } => rs2,
+        Action::ComputeImmediate { .. } => 0,
+        Action::Jump { .. } => 0,
+        Action::JumpTo { .. } => 0,
+        Action::Branch { rs2, .. } => rs2,
+        Action::Load { .. } => 0,
+        Action::Store { rs2, .. } => rs2,
     }
 }
 
@@ -327,43 +267,17 @@ pub fn computation_of(action: Action) -> Computation
 {
     match action {
         Action::Nothing => with_number(Binary::Add, 0),
-        Action::Literal { rd: _, value: _ } => with_number(Binary::Add, 0),
-        Action::Compute {
-            rd: _,
-            function,
-            rs1: _,
-            rs2: _,
-        } => with_register(function),
+        Action::Literal { .. } => with_number(Binary::Add, 0),
+        Action::Compute { function, .. } => with_register(function),
         Action::ComputeImmediate {
-            rd: _,
             function,
-            rs1: _,
             immediate,
+            ..
         } => with_number(function, immediate),
-        Action::Jump { rd: _, target: _ } => with_number(Binary::Add, 0),
-        Action::JumpTo {
-            rd: _,
-            rs1: _,
-            offset,
-        } => with_number(Binary::Target, offset),
-        Action::Branch {
-            test,
-            rs1: _,
-            rs2: _,
-            target: _,
-        } => with_register(test),
-        Action::Load {
-            rd: _,
-            rs1: _,
-            offset,
-            width: _,
-            extension: _,
-        } => with_number(Binary::Add, offset),
-        Action::Store {
-            rs1: _,
-            rs2: _,
-            offset,
-            width: _,
-        } => with_number(Binary::Add, offset),
+        Action::Jump { .. } => with_number(Binary::Add, 0),
+        Action::JumpTo { offset, .. } => with_number(Binary::Target, offset),
+        Action::Branch { test, .. } => with_register(test),
+        Action::Load { offset, .. } => with_number(Binary::Add, offset),
+        Action::Store { offset, .. } => with_number(Binary::Add, offset),
     }
 }

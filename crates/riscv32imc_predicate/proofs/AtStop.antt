@@ -9,7 +9,7 @@ use lib.Seq.{take-all, drop-cons, getD-take, append-snoc, set-at}
 use borrow.Author.Tests.{lt-leb, le-leb, eq-eqb, ne-eqb}
 use Rattle.little_endian.specs.Lent.{over}
 use Rattle.lane_word.specs.declared.LaneWord.{LaneWord}
-use Rattle.lane_word.specs.Word.{inputs}
+use Rattle.lane_word.specs.Word.{inputs, firstInput, lanes}
 use Rattle.predicate_semantics.specs.declared.CompiledMmioEvent.{CompiledMmioEvent}
 use Rattle.predicate_semantics.specs.Blank.{noEvent, noEvents}
 use Rattle.predicate_semantics.specs.Program.{Program}
@@ -40,7 +40,7 @@ eventBy ins memory at location = do
   value ← accessAgreed ins 10 memory 4 (at + 8)
   passed (record { operation = operation; offset = offset; value = value; location = location })
 
-event-next : (p : Program) (l : Setup) (memory : LaneBytes) (i : ℕ) (done : List CompiledMmioEvent) (location : ℕ) (locations : List ℕ) → l .inputs ≡ inputs 6 250
+event-next : (p : Program) (l : Setup) (memory : LaneBytes) (i : ℕ) (done : List CompiledMmioEvent) (location : ℕ) (locations : List ℕ) → l .inputs ≡ inputs firstInput lanes
     → events p l memory i done (location ∷ locations)
     ≡ (eventAt memory (p .symbols .events + 12 * i) location >>= λ e. events p l memory (suc i) (done ++ e ∷ []) locations)
 unfolding eventAt events
@@ -64,7 +64,7 @@ pub record Filling (image rows : List ℕ) (from count : ℕ) (locations : List 
   pub counted : length done ≡ i
   pub filled : es ≡ over done noEvents
   pub rest :
-      (p : Program) (l : Setup) → l .inputs ≡ inputs 6 250 → p .symbols .events ≡ from
+      (p : Program) (l : Setup) → l .inputs ≡ inputs firstInput lanes → p .symbols .events ≡ from
       → events p l (seen image rows) 0 [] (take count locations) ≡ events p l (seen image rows) i done (drop i (take count locations))
 
 pub filling-start : (image rows : List ℕ) (from count : ℕ) (locations : List ℕ) {es : List CompiledMmioEvent} → count ≤ 32 → length locations ≡ 32 → es ≡ noEvents
@@ -77,7 +77,7 @@ module _ {image rows : List ℕ} {from count : ℕ} {locations : List ℕ} {es :
   after p l t = t >>= λ e. events p l (seen image rows) (suc i) (f .done ++ e ∷ []) (drop (suc i) (take count locations))
 
   module _ (h : i < count) where
-    next : (p : Program) (l : Setup) → l .inputs ≡ inputs 6 250 → p .symbols .events ≡ from
+    next : (p : Program) (l : Setup) → l .inputs ≡ inputs firstInput lanes → p .symbols .events ≡ from
         → events p l (seen image rows) 0 [] (take count locations) ≡ after p l (eventAt (seen image rows) (from + 12 * i) (getD locations i 0))
     next p l a b =
         let left : i < length (take count locations) = rw (length-take count locations) (omega (arith, h, f .room, f .enough)) in
@@ -88,7 +88,7 @@ module _ {image rows : List ℕ} {from count : ℕ} {locations : List ℕ} {es :
         ∙ ap (λ (n : ℕ). after p l (eventAt (seen image rows) (n + 12 * i) (getD locations i 0))) b
 
     pub filling-refused : (q : Refusal) → refused q ≡ eventAt (seen image rows) (from + 12 * i) (getD locations i 0)
-        → (p : Program) (l : Setup) → l .inputs ≡ inputs 6 250 → p .symbols .events ≡ from
+        → (p : Program) (l : Setup) → l .inputs ≡ inputs firstInput lanes → p .symbols .events ≡ from
         → events p l (seen image rows) 0 [] (take count locations) ≡ refused q
     unfolding _>>=_
     filling-refused q e p l a b = next p l a b ∙ ap (after p l) (sym e)
@@ -107,7 +107,7 @@ module _ {image rows : List ℕ} {from count : ℕ} {locations : List ℕ} {es :
           rest = λ p l a b. next p l a b ∙ ap (after p l) (sym q);
         })
 
-  pub filling-exit : count ≤ i → (p : Program) (l : Setup) → l .inputs ≡ inputs 6 250 → p .symbols .events ≡ from
+  pub filling-exit : count ≤ i → (p : Program) (l : Setup) → l .inputs ≡ inputs firstInput lanes → p .symbols .events ≡ from
       → Finds verdict.Passed es (events p l (seen image rows) 0 [] (take count locations))
   unfolding events
   filling-exit h p l a b =
@@ -152,27 +152,27 @@ module _ (p : Program) (l : Setup) (s : LaneState) (value count : ℕ) where
 
 -- ---- the two numbers before
 module _ (p : Program) (l : Setup) (s : LaneState) (image rows : List ℕ) (x10 : LaneWord) (at : ℕ)
-    (a : l .inputs ≡ inputs 6 250) (b : p .symbols .«event_count» ≡ at) (m : memoryOf p l s ≡ seen image rows) (x : reg p l s 10 ≡ x10) where
+    (a : l .inputs ≡ inputs firstInput lanes) (b : p .symbols .«event_count» ≡ at) (m : memoryOf p l s ≡ seen image rows) (x : reg p l s 10 ≡ x10) where
   abbrev asked : List ℕ → LaneWord → LaneBytes → ℕ → Tested Result
   asked ins w memory n = agreed ins 6 w >>= λ value. accessAgreed ins 7 memory 4 n >>= λ count. finishEvents p l s value count
 
-  numbers : finish p l s ≡ asked (inputs 6 250) x10 (seen image rows) at
+  numbers : finish p l s ≡ asked (inputs firstInput lanes) x10 (seen image rows) at
   unfolding finish finishEvents
   numbers =
       ap (λ (ins : List ℕ). asked ins (reg p l s 10) (memoryOf p l s) (p .symbols .«event_count»)) a
-      ∙ ap (λ (w : LaneWord). asked (inputs 6 250) w (memoryOf p l s) (p .symbols .«event_count»)) x
-      ∙ ap (λ (y : LaneBytes). asked (inputs 6 250) x10 y (p .symbols .«event_count»)) m
-      ∙ ap (asked (inputs 6 250) x10 (seen image rows)) b
+      ∙ ap (λ (w : LaneWord). asked (inputs firstInput lanes) w (memoryOf p l s) (p .symbols .«event_count»)) x
+      ∙ ap (λ (y : LaneBytes). asked (inputs firstInput lanes) x10 y (p .symbols .«event_count»)) m
+      ∙ ap (asked (inputs firstInput lanes) x10 (seen image rows)) b
 
-  pub return-refused : (q : Refusal) → agreed (inputs 6 250) 6 x10 ≡ refused q → finish p l s ≡ refused q
+  pub return-refused : (q : Refusal) → agreed (inputs firstInput lanes) 6 x10 ≡ refused q → finish p l s ≡ refused q
   unfolding _>>=_
   return-refused q e = numbers ∙ rw e
 
-  module _ (value : ℕ) (e : agreed (inputs 6 250) 6 x10 ≡ passed value) where
-    pub count-refused : (q : Refusal) → accessAgreed (inputs 6 250) 7 (seen image rows) 4 at ≡ refused q → finish p l s ≡ refused q
+  module _ (value : ℕ) (e : agreed (inputs firstInput lanes) 6 x10 ≡ passed value) where
+    pub count-refused : (q : Refusal) → accessAgreed (inputs firstInput lanes) 7 (seen image rows) 4 at ≡ refused q → finish p l s ≡ refused q
     unfolding _>>=_
     count-refused q f = numbers ∙ rw (e, f)
 
-    pub both-known : (count : ℕ) → accessAgreed (inputs 6 250) 7 (seen image rows) 4 at ≡ passed count → finish p l s ≡ finishEvents p l s value count
+    pub both-known : (count : ℕ) → accessAgreed (inputs firstInput lanes) 7 (seen image rows) 4 at ≡ passed count → finish p l s ≡ finishEvents p l s value count
     unfolding _>>=_
     both-known count f = numbers ∙ rw (e, f)

@@ -8,7 +8,7 @@ use lib.Dec.{eqb}
 use borrow.Author.Tests.{eq-eqb, ne-eqb}
 use Rattle.riscv32imc.specs.Constants.{maxSteps}
 use Rattle.riscv_decode.specs.declared.Fetched.{Fetched}
-use Rattle.lane_word.specs.Word.{inputs}
+use Rattle.lane_word.specs.Word.{inputs, firstInput, lanes}
 use Rattle.predicate_semantics.specs.declared.Rv32SymbolLayout.{Rv32SymbolLayout}
 use Rattle.predicate_semantics.specs.Meaning.{meaning}
 use Rattle.predicate_semantics.specs.Program.{stop}
@@ -53,18 +53,18 @@ module _ (image rows : List ℕ) (place : Place) (r : Progress) where
 
     module _ (below : place .steps < maxSteps) where
       pub comes-refused : (x : Rv32Error) → r .more ≡ false → r .ending ≡ ending.Refused x
-          → ((steps : ℕ) → refused (refusalOf x) ≡ fetch (inputs 6 250) standingCore (seen image rows) steps (place .pc)) → Readies image rows place r
+          → ((steps : ℕ) → refused (refusalOf x) ≡ fetch (inputs firstInput lanes) standingCore (seen image rows) steps (place .pc)) → Readies image rows place r
       unfolding step look _>>=_ standing setup
       comes-refused x m e f =
           ends (ending.Refused x) m e (λ symbols n lent s a b c.
           let fuel : maxSteps - s .steps ≡ suc (maxSteps - suc (s .steps)) = omega (arith, b, below) in
-          let q : fetch (inputs 6 250) standingCore (memoryOf (program image symbols n lent) (space image symbols n lent) s) (s .steps) (s .pc) ≡ refused (refusalOf x)
+          let q : fetch (inputs firstInput lanes) standingCore (memoryOf (program image symbols n lent) (space image symbols n lent) s) (s .steps) (s .pc) ≡ refused (refusalOf x)
           = rw (c, ← a) (sym (f (s .steps))) in
           let t : step (program image symbols n lent) (space image symbols n lent) s ≡ refused (refusalOf x) = rw q in
           rw fuel (run-refused (program image symbols n lent) (space image symbols n lent) (maxSteps - suc (s .steps)) s (refusalOf x) (off-stop s a) t))
 
       pub comes-next : (f : Fetched) → r .more ≡ true
-          → ((steps : ℕ) → passed f ≡ fetch (inputs 6 250) standingCore (seen image rows) steps (place .pc))
+          → ((steps : ℕ) → passed f ≡ fetch (inputs firstInput lanes) standingCore (seen image rows) steps (place .pc))
           → r .word ≡ f .word → r .length ≡ f .length → meaningOf (r .action) ≡ meaning (f .operation) (place .pc)
           → r .rs1 ≡ firstSource (r .action) → r .rs2 ≡ secondSource (r .action) → r .computation ≡ computationOf (r .action) → Readies image rows place r
       unfolding standing setup

@@ -5,6 +5,7 @@ use Prim.Native.Nat.{ℕ, zero, suc, _+_, _%_, _^_, _≤_}
 use native.Mathlib.Omega.{arith}
 use lib.Dec.{eqb, leb, ltb}
 use lib.ListN.{length}
+use Rattle.lane_word.specs.Word as Word
 use Rattle.riscv32imc.specs.Arithmetic.{add, target}
 use Rattle.riscv32imc.specs.Constants.{imageBase}
 use Rattle.lane_word.specs.declared.LaneWord.{LaneWord}
@@ -34,13 +35,13 @@ verdict-is e h = sym h ∙ ap verdictOf e
 
 -- a uniform test of a computed word, by what is told of it
 pub tested-both : (role : ℕ) (u : Uniform) (f : ℕ → ℕ → ℕ) (left right : LaneWord) → u ≡ uniformOf (binary f left right)
-    → testedAs role u ≡ agreed (inputs 6 250) role (binary f left right)
+    → testedAs role u ≡ agreed (inputs Word.firstInput Word.lanes) role (binary f left right)
 tested-both role u f left right h = ap (testedAs role) h ∙ sym (agreed-is role (binary f left right))
 
-pub tested-number : (role : ℕ) (u : Uniform) (f : ℕ → ℕ → ℕ) (n : ℕ) (left : LaneWord) → length (left .values) ≡ 250
-    → u ≡ uniformOf (binary f left (constant 250 n)) → testedAs role u ≡ agreed (inputs 6 250) role (unary (λ v. f v n) left)
+pub tested-number : (role : ℕ) (u : Uniform) (f : ℕ → ℕ → ℕ) (n : ℕ) (left : LaneWord) → length (left .values) ≡ Word.lanes
+    → u ≡ uniformOf (binary f left (constant Word.lanes n)) → testedAs role u ≡ agreed (inputs Word.firstInput Word.lanes) role (unary (λ v. f v n) left)
 tested-number role u f n left e h =
-    tested-both role u f left (constant 250 n) h ∙ ap (agreed (inputs 6 250) role) (binary-constant f 250 n left e)
+    tested-both role u f left (constant Word.lanes n) h ∙ ap (agreed (inputs Word.firstInput Word.lanes) role) (binary-constant f Word.lanes n left e)
 
 -- a store takes at most a row for each of its bytes
 new-one : (f : Found) → newAt f ≤ 1
@@ -54,15 +55,15 @@ new-most rows zero a = omega arith
 new-most rows (suc n) a = omega (arith, new-most rows n a, new-one (findRow rows ((a + n) % 2 ^ 32)))
 
 module _ {p : Program} {l : Setup} {s : LaneState} {image rows : List ℕ} {written : ℕ} (g : Given p l s image rows written) (next : ℕ) where
-  lane-count : lanes p l ≡ 250
+  lane-count : lanes p l ≡ Word.lanes
   unfolding lanes
-  lane-count = rw (g .lanes) (length-inputs 6 250)
+  lane-count = rw (g .lanes) (length-inputs Word.firstInput Word.lanes)
 
-  pub literal-is : (rd v : ℕ) → execute p l s next (meaning.literal rd v) ≡ passed (sets rd (constant 250 v) next)
+  pub literal-is : (rd v : ℕ) → execute p l s next (meaning.literal rd v) ≡ passed (sets rd (constant Word.lanes v) next)
   unfolding execute
   literal-is rd v = rw lane-count
 
-  pub jump-is : (rd to : ℕ) → execute p l s next (meaning.jump rd to) ≡ passed (sets rd (constant 250 next) to)
+  pub jump-is : (rd to : ℕ) → execute p l s next (meaning.jump rd to) ≡ passed (sets rd (constant Word.lanes next) to)
   unfolding execute
   jump-is rd to = rw lane-count
 
@@ -90,19 +91,19 @@ module _ {p : Program} {l : Setup} {s : LaneState} {image rows : List ℕ} {writ
   after-address right n (passed address) = after-range right n address (λ _. passed (stores address n right next)) (inside address n) refl
 
   module _ (a : ℕ) {left : LaneWord} (x : reg p l s a ≡ left) where
-    pub immediate-is : (rd : ℕ) (f : ℕ → ℕ → ℕ) (n : ℕ) → execute p l s next (meaning.compute rd f a (meaning.immediate n)) ≡ passed (sets rd (binary f left (constant 250 n)) next)
+    pub immediate-is : (rd : ℕ) (f : ℕ → ℕ → ℕ) (n : ℕ) → execute p l s next (meaning.compute rd f a (meaning.immediate n)) ≡ passed (sets rd (binary f left (constant Word.lanes n)) next)
     unfolding execute operand
     immediate-is rd f n = rw (x, lane-count)
 
     -- the rest of a form follows what its lanes agree on
-    pub jump-to-is : (rd offset : ℕ) (t : Tested ℕ) → t ≡ agreed (inputs 6 250) 2 (unary (λ v. target v offset) left)
-        → execute p l s next (meaning.jumpTo rd a offset) ≡ (t >>= λ to. require 10 (ltb 0 to) >>= λ _. passed (sets rd (constant 250 next) to))
+    pub jump-to-is : (rd offset : ℕ) (t : Tested ℕ) → t ≡ agreed (inputs Word.firstInput Word.lanes) 2 (unary (λ v. target v offset) left)
+        → execute p l s next (meaning.jumpTo rd a offset) ≡ (t >>= λ to. require 10 (ltb 0 to) >>= λ _. passed (sets rd (constant Word.lanes next) to))
     unfolding execute
     jump-to-is rd offset t e = rw (e, x, lane-count, g .lanes)
 
-    pub load-is : (rd offset n : ℕ) (f : ℕ → ℕ) (t : Tested ℕ) → t ≡ agreed (inputs 6 250) 3 (unary (λ v. add v offset) left)
+    pub load-is : (rd offset n : ℕ) (f : ℕ → ℕ) (t : Tested ℕ) → t ≡ agreed (inputs Word.firstInput Word.lanes) 3 (unary (λ v. add v offset) left)
         → execute p l s next (meaning.load rd a offset n f)
-        ≡ (t >>= λ address. access (inputs 6 250) (seen image rows) n address >>= λ w. passed (sets rd (unary f w) next))
+        ≡ (t >>= λ address. access (inputs Word.firstInput Word.lanes) (seen image rows) n address >>= λ w. passed (sets rd (unary f w) next))
     unfolding execute
     load-is rd offset n f t e = rw (e, x, g .bytes, g .lanes)
 
@@ -111,12 +112,12 @@ module _ {p : Program} {l : Setup} {s : LaneState} {image rows : List ℕ} {writ
       unfolding execute operand
       compute-is rd f = rw (x, y)
 
-      pub branch-is : (f : ℕ → ℕ → ℕ) (to : ℕ) (t : Tested ℕ) → t ≡ agreed (inputs 6 250) 5 (binary f left right)
+      pub branch-is : (f : ℕ → ℕ → ℕ) (to : ℕ) (t : Tested ℕ) → t ≡ agreed (inputs Word.firstInput Word.lanes) 5 (binary f left right)
           → execute p l s next (meaning.branch f a b to) ≡ (t >>= λ direction. passed (goes (choose (eqb direction 0) (λ _. next) (λ _. to))))
       unfolding execute
       branch-is f to t e = rw (e, x, y, g .lanes)
 
-      pub store-is : (offset n : ℕ) (t : Tested ℕ) → t ≡ agreed (inputs 6 250) 4 (unary (λ v. add v offset) left)
+      pub store-is : (offset n : ℕ) (t : Tested ℕ) → t ≡ agreed (inputs Word.firstInput Word.lanes) 4 (unary (λ v. add v offset) left)
           → execute p l s next (meaning.store a b offset n)
           ≡ (t >>= λ address. roomFor address n (length image) rows written >>= λ _. passed (stores address n right next))
       unfolding execute

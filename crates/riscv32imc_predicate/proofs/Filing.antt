@@ -11,7 +11,7 @@ use lib.Seq.{getD-set-same, getD-set-other, set-out}
 use Rattle.lane_word.specs.declared.LaneWord.{LaneWord}
 use Rattle.lane_word.specs.declared.Uniform.{Uniform}
 use Rattle.lane_word.specs.declared.Uniform.the-variants.{Value, Unknown, Uneven}
-use Rattle.lane_word.specs.Word.{constant, unknown, domain, inputs}
+use Rattle.lane_word.specs.Word.{constant, unknown, domain, inputs, firstInput, lanes}
 use Rattle.lane_word.proofs.Tab.{length-inputs}
 use Rattle.lane_word.specs.Told.{wordOf}
 use Rattle.lane_word.proofs.Told.{constant-size}
@@ -40,7 +40,7 @@ held-both (suc n) (x ∷ us) [] (suc i) u w = refl
 held-both (suc n) (x ∷ us) (y ∷ ws) zero u w = refl
 held-both (suc n) (x ∷ us) (y ∷ ws) (suc i) u w = ap (λ (l : List LaneWord). wordOf x y ∷ l) (held-both n us ws i u w)
 
-held-told : (n : ℕ) (us : List Uniform) (ws : List LaneWord) (i v : ℕ) → heldWords n (set us i (Value v)) ws ≡ set (heldWords n us ws) i (constant 250 v)
+held-told : (n : ℕ) (us : List Uniform) (ws : List LaneWord) (i v : ℕ) → heldWords n (set us i (Value v)) ws ≡ set (heldWords n us ws) i (constant lanes v)
 unfolding heldWords
 held-told zero us ws i v = refl
 held-told (suc n) [] ws i v = refl
@@ -87,37 +87,37 @@ slot-below rd = go (eqb rd 0) (ltb rd 32) refl
 
 -- ---- changes
 
-sized-set : (ws : List LaneWord) (i : ℕ) (w : LaneWord) → length ws ≡ 35 → i < 35 → length (w .values) ≡ 250
-    → ((k : ℕ) → k < 35 → length (getD ws k (unknown 250) .values) ≡ 250) → (k : ℕ) → k < 35 → length (getD (set ws i w) k (unknown 250) .values) ≡ 250
+sized-set : (ws : List LaneWord) (i : ℕ) (w : LaneWord) → length ws ≡ 35 → i < 35 → length (w .values) ≡ lanes
+    → ((k : ℕ) → k < 35 → length (getD ws k (unknown lanes) .values) ≡ lanes) → (k : ℕ) → k < 35 → length (getD (set ws i w) k (unknown lanes) .values) ≡ lanes
 sized-set ws i w e b s f k h = go (eqb k i) refl
   where
-    go : (c : Bool) → eqb k i ≡ c → length (getD (set ws i w) k (unknown 250) .values) ≡ 250
-    go true q = rw (eqb-true k i q, getD-set-same ws i w (unknown 250) (omega (arith, e, b))) s
-    go false q = rw (getD-set-other ws i k w (unknown 250) (λ z. eqb-false k i q z)) (f k h)
+    go : (c : Bool) → eqb k i ≡ c → length (getD (set ws i w) k (unknown lanes) .values) ≡ lanes
+    go true q = rw (eqb-true k i q, getD-set-same ws i w (unknown lanes) (omega (arith, e, b))) s
+    go false q = rw (getD-set-other ws i k w (unknown lanes) (λ z. eqb-false k i q z)) (f k h)
 
 module _ {told : List Uniform} {words registers : List LaneWord} (h : Held told words registers) where
   -- a register that is read
   pub held-source : (k : ℕ) (d : LaneWord) (e : Uniform) (f : LaneWord) → k < 32 → getD registers k d ≡ wordOf (getD told k e) (getD words k f)
   held-source k d e f b = rw (← (h .same)) (held-read 32 told words k d e f b (omega (arith, h .told-size)) (omega (arith, h .words-size)))
 
-  pub held-lanes : (k : ℕ) (d : LaneWord) → k < 35 → length (getD words k d .values) ≡ 250
-  held-lanes k d b = rw (read-any words k d (unknown 250) (omega (arith, h .words-size))) (h .lanes k b)
+  pub held-lanes : (k : ℕ) (d : LaneWord) → k < 35 → length (getD words k d .values) ≡ lanes
+  held-lanes k d b = rw (read-any words k d (unknown lanes) (omega (arith, h .words-size))) (h .lanes k b)
 
   -- a register that is set, by one value
-  pub held-value : (rd v : ℕ) → Held (set told (slotOf rd) (Value v)) words (assign registers rd (constant 250 v))
+  pub held-value : (rd v : ℕ) → Held (set told (slotOf rd) (Value v)) words (assign registers rd (constant lanes v))
   held-value rd v = record {
     told-size = length-set told (slotOf rd) (Value v) ∙ h .told-size;
     words-size = h .words-size;
     lanes = h .lanes;
-    size = ap length (sym (assign-slot registers rd (constant 250 v) (h .size))) ∙ length-set registers (slotOf rd) (constant 250 v) ∙ h .size;
+    size = ap length (sym (assign-slot registers rd (constant lanes v) (h .size))) ∙ length-set registers (slotOf rd) (constant lanes v) ∙ h .size;
     same =
         held-told 32 told words (slotOf rd) v
-        ∙ ap (λ (l : List LaneWord). set l (slotOf rd) (constant 250 v)) (h .same)
-        ∙ assign-slot registers rd (constant 250 v) (h .size);
+        ∙ ap (λ (l : List LaneWord). set l (slotOf rd) (constant lanes v)) (h .same)
+        ∙ assign-slot registers rd (constant lanes v) (h .size);
   }
 
   -- by a word and what is told of it
-  pub held-word : (rd : ℕ) (u : Uniform) (w : LaneWord) → length (w .values) ≡ 250
+  pub held-word : (rd : ℕ) (u : Uniform) (w : LaneWord) → length (w .values) ≡ lanes
       → Held (set told (slotOf rd) u) (set words (slotOf rd) w) (assign registers rd (wordOf u w))
   held-word rd u w s = record {
     told-size = length-set told (slotOf rd) u ∙ h .told-size;
@@ -134,23 +134,23 @@ module _ {told : List Uniform} {words registers : List LaneWord} (h : Held told 
   pub held-laid : (u : Uniform) (own : ℕ) → 32 ≤ own → own < 35 → Held told (laidOut u own words) registers
   held-laid (Value v) own a b = record {
     told-size = h .told-size;
-    words-size = length-set words own (constant 250 v) ∙ h .words-size;
-    lanes = sized-set words own (constant 250 v) (h .words-size) b (constant-size 250 v) (h .lanes);
+    words-size = length-set words own (constant lanes v) ∙ h .words-size;
+    lanes = sized-set words own (constant lanes v) (h .words-size) b (constant-size lanes v) (h .lanes);
     size = h .size;
-    same = held-beyond 32 told words own (constant 250 v) a ∙ h .same;
+    same = held-beyond 32 told words own (constant lanes v) a ∙ h .same;
   }
   held-laid Unknown own a b = h
   held-laid Uneven own a b = h
 
   -- is the operand's word there
   pub laid-read : (u : Uniform) (k own : ℕ) (d e : LaneWord) → k < 35 → own < 35 → getD (laidOut u own words) (placeOf u k own) d ≡ wordOf u (getD words k e)
-  laid-read (Value v) k own d e a b = getD-set-same words own (constant 250 v) d (omega (arith, h .words-size))
+  laid-read (Value v) k own d e a b = getD-set-same words own (constant lanes v) d (omega (arith, h .words-size))
   laid-read Unknown k own d e a b = read-any words k d e (omega (arith, h .words-size))
   laid-read Uneven k own d e a b = read-any words k d e (omega (arith, h .words-size))
 
 -- another operand's place
 pub laid-other : (words : List LaneWord) (u : Uniform) (k own : ℕ) (d : LaneWord) → (k ≡ own → ⊥) → getD (laidOut u own words) k d ≡ getD words k d
-laid-other words (Value v) k own d n = getD-set-other words own k (constant 250 v) d n
+laid-other words (Value v) k own d n = getD-set-other words own k (constant lanes v) d n
 laid-other words Unknown k own d n = refl
 laid-other words Uneven k own d n = refl
 
@@ -168,7 +168,7 @@ place-apart Uneven k a e = omega arith
 pub operand-word : (c : Computation) (u : Uniform) (w : LaneWord) → wordOf (operandTold c u) w ≡ operandOf c (wordOf u w)
 operand-word c u w = go (c .immediate)
   where
-    go : (b : Bool) → wordOf (cond b (Value (c .operand)) u) w ≡ cond b (constant 250 (c .operand)) (wordOf u w)
+    go : (b : Bool) → wordOf (cond b (Value (c .operand)) u) w ≡ cond b (constant lanes (c .operand)) (wordOf u w)
     go true = refl
     go false = refl
 
@@ -183,18 +183,18 @@ pub unknown-size : (n : ℕ) → length (unknown n .values) ≡ n
 unfolding unknown
 unknown-size n = length-replicate n 0
 
-domain-size : length (domain (inputs 6 250) .values) ≡ 250
+domain-size : length (domain (inputs firstInput lanes) .values) ≡ lanes
 unfolding domain
-domain-size = length-inputs 6 250
+domain-size = length-inputs firstInput lanes
 
-pub start-held : Held startTold (set (replicate 35 (unknown 250)) 10 (domain (inputs 6 250))) startRegisters
+pub start-held : Held startTold (set (replicate 35 (unknown lanes)) 10 (domain (inputs firstInput lanes))) startRegisters
 unfolding heldWords fill atStart choose
 start-held = record {
   told-size = refl;
   words-size = refl;
   lanes =
-      sized-set (replicate 35 (unknown 250)) 10 (domain (inputs 6 250)) refl (omega arith) domain-size
-      (λ k h. rw (same-replicate 35 k (unknown 250)) (unknown-size 250));
+      sized-set (replicate 35 (unknown lanes)) 10 (domain (inputs firstInput lanes)) refl (omega arith) domain-size
+      (λ k h. rw (same-replicate 35 k (unknown lanes)) (unknown-size lanes));
   size = refl;
   same = refl;
 }

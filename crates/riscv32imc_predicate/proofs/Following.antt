@@ -8,6 +8,7 @@ use native.Mathlib.Omega.{arith}
 use lib.Dec.{ltb, eqb}
 use lib.ListN.{length, length-append, drop}
 use lib.Seq.{sets, length-sets}
+use Rattle.lane_word.specs.Word as Word
 use Rattle.little_endian.specs.Lent.{over}
 use Rattle.little_endian.specs.Pack.{pack, packs}
 use Rattle.little_endian.proofs.SetLaws.{sets-append, sets-over}
@@ -107,7 +108,7 @@ module _ (image : List ℕ) (symbols : Rv32SymbolLayout) (n : ℕ) (lent : List 
   module _ {place : Place} {rows trace : List ℕ} {s : LaneState} (t : Tracks image symbols n lent place rows trace s) where
     pub sees : memoryOf p l s ≡ seen image rows
     unfolding memoryOf lanes standing setup
-    sees = rw (length-inputs 6 250) (sym (seen-holds image rows n (s .memory) (t .holds) (t .above)))
+    sees = rw (length-inputs Word.firstInput Word.lanes) (sym (seen-holds image rows n (s .memory) (t .holds) (t .above)))
 
     pub given : Given p l s image rows (place .written)
     unfolding standing setup

@@ -5,6 +5,7 @@ use mathlib.Core.List.{List, []}
 use Prim.Native.Nat.{ℕ, suc, _-_, _<_}
 use native.Mathlib.Omega.{arith}
 use lib.ListN.{length, getD, set}
+use Rattle.lane_word.specs.Word as Word
 use Rattle.riscv32imc.specs.Arithmetic.{add}
 use Rattle.riscv32imc.specs.Constants.{maxSteps}
 use Rattle.riscv32imc.specs.Value.{valueOf}
@@ -43,10 +44,10 @@ use Rattle.riscv32imc_predicate.proofs.Stepping.{Decided, on-refused, o
 pub begin-registers : (image : List ℕ) (symbols : Rv32SymbolLayout) (n : ℕ) (lent : List ℕ)
     → startRegisters ≡ (begin (program image symbols n lent) (space image symbols n lent)) .registers
 unfolding begin standing standingCore setup lanes
-begin-registers image symbols n lent = rw (length-inputs 6 250)
+begin-registers image symbols n lent = rw (length-inputs Word.firstInput Word.lanes)
 
 -- what is told of a word tells it
-told-same : (u : Uniform) (w x : LaneWord) → length (w .values) ≡ 250 → u ≡ uniformOf w → (isValue u ≡ false → x ≡ w) → wordOf u x ≡ w
+told-same : (u : Uniform) (w x : LaneWord) → length (w .values) ≡ Word.lanes → u ≡ uniformOf w → (isValue u ≡ false → x ≡ w) → wordOf u x ≡ w
 told-same (Value v) w x e h k = sym (told-is w v e (sym h))
 told-same Unknown w x e h k = k refl
 told-same Uneven w x e h k = k refl
@@ -68,13 +69,13 @@ module _ (image : List ℕ) (symbols : Rv32SymbolLayout) (rows₀ trace₀ : Lis
     pub ready : Ready image symbols (rowCount rows₀) trace₀ progress state
     pub keeps : Keeps kept (state .locations)
     pub held : Held told words (state .registers)
-    pub size : length (word .values) ≡ 250
+    pub size : length (word .values) ≡ Word.lanes
     pub same-rest : rest image symbols (rowCount rows₀) trace₀ (begin (program image symbols (rowCount rows₀) trace₀) (space image symbols (rowCount rows₀) trace₀))
         ≡ rest image symbols (rowCount rows₀) trace₀ state
     pub same-rows : cleared rows ≡ cleared rows₀
 
   pub looped-start : (words : List LaneWord) (told : List Uniform) (word : LaneWord) (kept : Recorded) (first : Progress) → Held told words startRegisters
-      → length (word .values) ≡ 250 → kept ≡ startRecorded → Begins image symbols rows₀ trace₀ first → Looped words told word kept first rows₀ trace₀
+      → length (word .values) ≡ Word.lanes → kept ≡ startRecorded → Begins image symbols rows₀ trace₀ first → Looped words told word kept first rows₀ trace₀
   unfolding begin
   looped-start words told word kept first h e z b = record {
     state = begin (program image symbols (rowCount rows₀) trace₀) (space image symbols (rowCount rows₀) trace₀);
@@ -141,10 +142,10 @@ module _ (image : List ℕ) (symbols : Rv32SymbolLayout) (rows₀ trace₀ : Lis
       abbrev pub word₂ : LaneWord
       word₂ = wordOf second held₂
 
-      size₁ : length (word₁ .values) ≡ 250
+      size₁ : length (word₁ .values) ≡ Word.lanes
       size₁ = word-size first held₁ (held-lanes (i .held) (progress .rs1) blank (omega (arith, sources .0)))
 
-      size₂ : length (word₂ .values) ≡ 250
+      size₂ : length (word₂ .values) ≡ Word.lanes
       size₂ = word-size second held₂ (held-lanes (i .held) (progress .rs2) blank (omega (arith, sources .1)))
 
       -- the computed word
@@ -155,7 +156,7 @@ module _ (image : List ℕ) (symbols : Rv32SymbolLayout) (rows₀ trace₀ : Lis
       by-operands : binary (valueOf (progress .computation .function)) word₁ (wordOf (operandTold (progress .computation) second) held₂) ≡ result
       by-operands = ap (binary (valueOf (progress .computation .function)) word₁) (operand-word (progress .computation) second held₂)
 
-      result-size : length (result .values) ≡ 250
+      result-size : length (result .values) ≡ Word.lanes
       result-size =
           ap (λ (k : LaneWord). length (k .values)) (sym by-operands)
           ∙ binary-size _ word₁ (wordOf (operandTold (progress .computation) second) held₂) size₁
@@ -164,7 +165,7 @@ module _ (image : List ℕ) (symbols : Rv32SymbolLayout) (rows₀ trace₀ : Lis
       -- what the loop knows once the word is computed or told
       pub record Computed (words′ : List LaneWord) (word′ : LaneWord) (tested : Uniform) : Type 0 where
         pub keeps : Held told words′ (i .state .registers)
-        pub sized : length (word′ .values) ≡ 250
+        pub sized : length (word′ .values) ≡ Word.lanes
         pub tells : tested ≡ uniformOf result
         pub is-word : wordOf tested word′ ≡ result
 
@@ -223,8 +224,8 @@ module _ (image : List ℕ) (symbols : Rv32SymbolLayout) (rows₀ trace₀ : Lis
         -- the second source's word is still there
         pub second-now : wordOf second (getD words′ (progress .rs2) blank) ≡ word₂
         second-now =
-            sym (held-source (k .keeps) (progress .rs2) (unknown 250) (Value 0) blank (sources .1))
-            ∙ held-source (i .held) (progress .rs2) (unknown 250) (Value 0) blank (sources .1)
+            sym (held-source (k .keeps) (progress .rs2) (unknown Word.lanes) (Value 0) blank (sources .1))
+            ∙ held-source (i .held) (progress .rs2) (unknown Word.lanes) (Value 0) blank (sources .1)
 
         -- what the loop does with a change
         abbrev pub Applied : Change → List Uniform → List LaneWord → Recorded → List ℕ → ℕ → Type 0
@@ -269,8 +270,8 @@ module _ (image : List ℕ) (symbols : Rv32SymbolLayout) (rows₀ trace₀ : Lis
           }
           went (change.Sets rd z next) h f a o = record {
             rd = rd;
-            value = constant 250 z;
-            step = rw (a .2, a .3) (on-sets image symbols (rowCount rows₀) trace₀ progress rows trace (i .state) (i .tracks) goes result word₂ old (i .keeps) (change.Sets rd z next) (decided (change.Sets rd z next) h) rd next (constant 250 z) refl r trace″ (rw (a .3) at o));
+            value = constant Word.lanes z;
+            step = rw (a .2, a .3) (on-sets image symbols (rowCount rows₀) trace₀ progress rows trace (i .state) (i .tracks) goes result word₂ old (i .keeps) (change.Sets rd z next) (decided (change.Sets rd z next) h) rd next (constant Word.lanes z) refl r trace″ (rw (a .3) at o));
             held = rw (a .0, a .1) (held-value (k .keeps) rd z);
             same-rows = ap cleared (a .3);
           }

@@ -8,6 +8,7 @@ use native.Mathlib.Omega.{arith}
 use lib.Dec.{leb, ltb}
 use lib.ListN.{length}
 use borrow.Author.Tests.{lt-ltb, ltb-true}
+use Rattle.lane_word.specs.Word as Word
 use Rattle.little_endian.specs.Lent.{over}
 use Rattle.riscv32imc.specs.Arithmetic.{mul}
 use Rattle.riscv32imc.specs.Constants.{imageBase, maxImageBytes, maxSteps}
@@ -72,10 +73,10 @@ module _ (image : List ℕ) (symbols : Rv32SymbolLayout) (n entries : ℕ) (s : 
   abbrev pub numbersOf : ℕ → ℕ → ℕ → ℕ → PredicateTransducerExecution
   numbersOf value k written recorded = record {
     «first_input» = 6;
-    «lane_count» = 250;
+    «lane_count» = Word.lanes;
     «return_value» = value;
     «symbolic_transitions» = k;
-    «lane_value_operations» = mul 250 k;
+    «lane_value_operations» = mul Word.lanes k;
     «sparse_memory_bytes» = written;
     «event_count» = recorded % 256;
   }
@@ -88,7 +89,7 @@ module _ (image : List ℕ) (symbols : Rv32SymbolLayout) (n entries : ℕ) (s : 
       → numbersOf value k written recorded ≡ execution (standing image symbols) (setup n entries) s (resultOf value found)
   unfolding execution lanes laneOperations writtenBytes setup inputs
   numbers-are value k written recorded found e b w r f few =
-      let o : mul 250 k ≡ 250 * s .steps = mod-eq-of-lt (omega (arith, b)) ∙ ap (λ (x : ℕ). 250 * x) e in
+      let o : mul Word.lanes k ≡ Word.lanes * s .steps = mod-eq-of-lt (omega (arith, b)) ∙ ap (λ (x : ℕ). Word.lanes * x) e in
       let c : recorded % 256 ≡ length found = mod-eq-of-lt (omega (arith, r, f, few)) ∙ r ∙ sym f in
       rw (o, c, w, e) refl
 
@@ -153,9 +154,9 @@ module _ (image : List ℕ) (symbols : Rv32SymbolLayout) (n : ℕ) (lent : List 
       same-pc = refl;
       same-steps = refl;
       bounded = omega arith;
-      holds = rw (length-inputs 6 250) (holds-store-value k 4 stop stopWord (omega arith) (rw (length-inputs 6 250) at (kept-first .stored .most)));
-      above = above-write (imageBase + length image) 4 stop (constant (length (inputs 6 250)) stopWord) [] (omega (arith, kept-first .fits .1)) tt;
-      same-written = four (constant (length (inputs 6 250)) stopWord);
+      holds = rw (length-inputs Word.firstInput Word.lanes) (holds-store-value k 4 stop stopWord (omega arith) (rw (length-inputs Word.firstInput Word.lanes) at (kept-first .stored .most)));
+      above = above-write (imageBase + length image) 4 stop (constant (length (inputs Word.firstInput Word.lanes)) stopWord) [] (omega (arith, kept-first .fits .1)) tt;
+      same-written = four (constant (length (inputs Word.firstInput Word.lanes)) stopWord);
       traced = refl;
     }
 

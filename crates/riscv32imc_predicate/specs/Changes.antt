@@ -7,7 +7,7 @@ use lib.ListN.{length}
 use Rattle.riscv32imc.specs.Constants.{imageBase}
 use Rattle.lane_word.specs.declared.LaneWord.{LaneWord}
 use Rattle.lane_word.specs.declared.Uniform.{Uniform}
-use Rattle.lane_word.specs.Word.{constant, unary, inputs, uniformOf}
+use Rattle.lane_word.specs.Word.{constant, unary, inputs, uniformOf, firstInput, lanes}
 use Rattle.predicate_semantics.specs.Choice.{choose}
 use Rattle.predicate_semantics.specs.Program.{Program}
 use Rattle.predicate_semantics.specs.State.{Effect, goes, sets, stores}
@@ -27,9 +27,9 @@ use Rattle.riscv32imc_predicate.specs.declared.Change.the-variants as ch
 -- a change, in some memory, with the computed word and the second source's
 abbrev pub changeOf : LaneBytes → LaneWord → LaneWord → Change → Tested (Effect LaneWord)
 changeOf m w r (change.Goes next) = passed (goes next)
-changeOf m w r (change.Sets rd v next) = passed (sets rd (constant 250 v) next)
+changeOf m w r (change.Sets rd v next) = passed (sets rd (constant lanes v) next)
 changeOf m w r (change.Computes rd next) = passed (sets rd w next)
-changeOf m w r (change.Loads rd a n e next) = passed (sets rd (unary (extensionOf e) (read 250 m n a)) next)
+changeOf m w r (change.Loads rd a n e next) = passed (sets rd (unary (extensionOf e) (read lanes m n a)) next)
 changeOf m w r (change.Stores a n next) = passed (stores a n r next)
 changeOf m w r (change.Refused e) = refused (refusalOf e)
 
@@ -55,7 +55,7 @@ lastTested t steps entries = do
 
 -- the code is given a state of the semantics: its memory as image and rows show it, and how many bytes are written
 pub record Given (p : Program) (l : Setup) (s : LaneState) (image rows : List ℕ) (written : ℕ) : Type 0 where
-  pub lanes : l .inputs ≡ inputs 6 250
+  pub lanes : l .inputs ≡ inputs firstInput lanes
   pub is-image : p .image ≡ image
   pub lent : l .rows ≡ rowCount rows
   pub bytes : memoryOf p l s ≡ seen image rows
@@ -72,11 +72,11 @@ roomFor address width size rows written = do
 
 abbrev pub SetsComputed : Change → ℕ → Uniform → ℕ → Type 0
 SetsComputed x rd tested next =
-    (m : LaneBytes) (w r : LaneWord) → length (w .values) ≡ 250 → tested ≡ uniformOf w → changeOf m w r x ≡ passed (sets rd w next)
+    (m : LaneBytes) (w r : LaneWord) → length (w .values) ≡ lanes → tested ≡ uniformOf w → changeOf m w r x ≡ passed (sets rd w next)
 
 abbrev pub JumpsTo : Change → ℕ → Uniform → ℕ → Type 0
 JumpsTo x rd tested next =
-    Always x (λ _. testedAs 2 tested >>= λ to. require 10 (ltb 0 to) >>= λ _. passed (sets rd (constant 250 next) to))
+    Always x (λ _. testedAs 2 tested >>= λ to. require 10 (ltb 0 to) >>= λ _. passed (sets rd (constant lanes next) to))
 
 abbrev pub Branches : Change → Uniform → ℕ → ℕ → Type 0
 Branches x tested to next =
@@ -85,7 +85,7 @@ Branches x tested to next =
 abbrev pub LoadsFrom : List ℕ → List ℕ → Change → ℕ → Uniform → ℕ → Extension → ℕ → Type 0
 LoadsFrom image rows x rd tested n e next =
     (w r : LaneWord) → changeOf (seen image rows) w r x
-    ≡ (testedAs 3 tested >>= λ address. access (inputs 6 250) (seen image rows) n address >>= λ v. passed (sets rd (unary (extensionOf e) v) next))
+    ≡ (testedAs 3 tested >>= λ address. access (inputs firstInput lanes) (seen image rows) n address >>= λ v. passed (sets rd (unary (extensionOf e) v) next))
 
 abbrev pub StoresTo : List ℕ → ℕ → ℕ → Change → Uniform → ℕ → ℕ → Type 0
 StoresTo rows written size x tested n next =
@@ -95,8 +95,8 @@ StoresTo rows written size x tested n next =
 pub record Sources (p : Program) (l : Setup) (s : LaneState) (action : Action) (left right : LaneWord) (tested : Uniform) : Type 0 where
   pub first : reg p l s (firstSource action) ≡ left
   pub second : reg p l s (secondSource action) ≡ right
-  pub left-size : length (left .values) ≡ 250
-  pub right-size : length (right .values) ≡ 250
+  pub left-size : length (left .values) ≡ lanes
+  pub right-size : length (right .values) ≡ lanes
   pub told : tested ≡ uniformOf (computed (computationOf action) left right)
 
 -- what the code executes is what the semantics does in every state that gives it these sources

@@ -7,7 +7,7 @@ use lib.Dec.{eqb, leb}
 use lib.ListN.{length}
 use Rattle.little_endian.specs.Lent.{over}
 use Rattle.lane_word.specs.declared.LaneWord.{LaneWord}
-use Rattle.lane_word.specs.Word.{inputs}
+use Rattle.lane_word.specs.Word.{inputs, firstInput, lanes}
 use Rattle.predicate_semantics.specs.declared.CompiledMmioEvent.{CompiledMmioEvent}
 use Rattle.predicate_semantics.specs.declared.Rv32SymbolLayout.{Rv32SymbolLayout}
 use Rattle.predicate_semantics.specs.Program.{Program}
@@ -29,9 +29,9 @@ use Rattle.riscv32imc_predicate.specs.Tracking.{Keeps}
 -- an event's three numbers from an address, with its location
 unfoldable pub eventAt : LaneBytes → ℕ → ℕ → Tested CompiledMmioEvent
 eventAt memory at location = do
-  operation ← accessAgreed (inputs 6 250) 8 memory 4 at
-  offset ← accessAgreed (inputs 6 250) 9 memory 4 (at + 4)
-  value ← accessAgreed (inputs 6 250) 10 memory 4 (at + 8)
+  operation ← accessAgreed (inputs firstInput lanes) 8 memory 4 at
+  offset ← accessAgreed (inputs firstInput lanes) 9 memory 4 (at + 4)
+  value ← accessAgreed (inputs firstInput lanes) 10 memory 4 (at + 8)
   passed (record { operation = operation; offset = offset; value = value; location = location })
 
 abbrev pub eventOf : Verdict → CompiledMmioEvent → Tested CompiledMmioEvent
@@ -46,7 +46,7 @@ Finds (verdict.Refused x) es t = (t ≡ refused (refusalOf x)) × (es ≡ noEven
 -- the events of a run whose inputs, and whose events symbol, are the ones given
 abbrev pub FindsEvents : List ℕ → List ℕ → ℕ → List ℕ → EventsReading → Type 0
 FindsEvents image rows from locations r =
-    (p : Program) (l : Setup) → l .inputs ≡ inputs 6 250 → p .symbols .events ≡ from
+    (p : Program) (l : Setup) → l .inputs ≡ inputs firstInput lanes → p .symbols .events ≡ from
     → Finds (r .verdict) (r .events) (events p l (seen image rows) 0 [] locations)
 
 -- the answer at a state: its return value and its events
@@ -70,7 +70,7 @@ finishEvents p l s value count = do
 
 abbrev pub FinishesEvents : List ℕ → ℕ → List ℕ → Recorded → ℕ → ℕ → Finished → Type 0
 FinishesEvents image from rows kept value count r =
-    (p : Program) (l : Setup) (s : LaneState) → l .inputs ≡ inputs 6 250 → p .symbols .events ≡ from
+    (p : Program) (l : Setup) (s : LaneState) → l .inputs ≡ inputs firstInput lanes → p .symbols .events ≡ from
     → memoryOf p l s ≡ seen image rows
     → Keeps kept (s .locations)
     → Answers (r .verdict) (r .«return_value») (r .events) s (finishEvents p l s value count)
@@ -79,7 +79,7 @@ FinishesEvents image from rows kept value count r =
 -- number of locations and the first of them, and x10
 abbrev pub Finishes : List ℕ → Rv32SymbolLayout → List ℕ → Recorded → LaneWord → Finished → Type 0
 Finishes image symbols rows kept x10 r =
-    (p : Program) (l : Setup) (s : LaneState) → l .inputs ≡ inputs 6 250 → p .symbols ≡ symbols
+    (p : Program) (l : Setup) (s : LaneState) → l .inputs ≡ inputs firstInput lanes → p .symbols ≡ symbols
     → memoryOf p l s ≡ seen image rows
     → Keeps kept (s .locations)
     → reg p l s 10 ≡ x10

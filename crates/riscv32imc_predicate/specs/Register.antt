@@ -8,7 +8,7 @@ use lib.ListN.{length, getD, set, replicate}
 use Rattle.lane_word.specs.declared.LaneWord.{LaneWord}
 use Rattle.lane_word.specs.declared.Uniform.{Uniform}
 use Rattle.lane_word.specs.declared.Uniform.the-variants.{Value, Unknown, Uneven}
-use Rattle.lane_word.specs.Word.{constant, unknown, unary}
+use Rattle.lane_word.specs.Word.{constant, unknown, unary, lanes}
 use Rattle.lane_word.specs.Told.{wordOf}
 use Rattle.predicate_semantics.specs.Program.{stop, stackPointer}
 use Rattle.predicate_semantics.specs.Memory.{Written, read, write}
@@ -33,7 +33,7 @@ heldWords (suc n) (u ∷ us) (w ∷ ws) = wordOf u w ∷ heldWords n us ws
 pub record Held (told : List Uniform) (words registers : List LaneWord) : Type 0 where
   pub told-size : length told ≡ 35
   pub words-size : length words ≡ 35
-  pub lanes : (k : ℕ) → k < 35 → length (getD words k (unknown 250) .values) ≡ 250
+  pub lanes : (k : ℕ) → k < 35 → length (getD words k (unknown lanes) .values) ≡ lanes
   pub size : length registers ≡ 32
   pub same : heldWords 32 told words ≡ registers
 
@@ -59,7 +59,7 @@ placeOf Unknown register own = register
 placeOf Uneven register own = register
 
 abbrev pub laidOut : Uniform → ℕ → List LaneWord → List LaneWord
-laidOut (Value v) own words = set words own (constant 250 v)
+laidOut (Value v) own words = set words own (constant lanes v)
 laidOut Unknown own words = words
 laidOut Uneven own words = words
 
@@ -72,5 +72,5 @@ pub record Stores (rows : List ℕ) (address width : ℕ) (w : LaneWord) (new : 
 
 -- a load that has passed its range, lane by lane
 pub record LoadsLanes (image rows : List ℕ) (address width : ℕ) (e : Extension) (r : LaneWord) : Type 0 where
-  pub size : length (r .values) ≡ 250
-  pub is : inside address width ≡ passed tt → r ≡ unary (extensionOf e) (read 250 (seen image rows) width address)
+  pub size : length (r .values) ≡ lanes
+  pub is : inside address width ≡ passed tt → r ≡ unary (extensionOf e) (read lanes (seen image rows) width address)

@@ -11,7 +11,7 @@ use Rattle.riscv32imc.specs.Constants.{imageBase, maxImageBytes, maxSteps}
 use Rattle.riscv_decode.specs.declared.Fetched.{Fetched}
 use Rattle.lane_word.specs.declared.LaneWord.{LaneWord}
 use Rattle.lane_word.specs.declared.Uniform.{Uniform}
-use Rattle.lane_word.specs.Word.{unknown, constant, domain, inputs}
+use Rattle.lane_word.specs.Word.{unknown, constant, domain, inputs, firstInput, lanes}
 use Rattle.predicate_semantics.specs.declared.Rv32SymbolLayout.{Rv32SymbolLayout}
 use Rattle.predicate_semantics.specs.Meaning.{meaning}
 use Rattle.predicate_semantics.specs.Program.{Program, stop, stackPointer, placed}
@@ -199,7 +199,7 @@ startRecorded = record { count = 0; locations = replicate 32 0 }
 -- "x0 = 0, x1 = stop, x2 = 801FFFF0, x10 = the input; the rest are unknown"
 abbrev pub startRegisters : List LaneWord
 startRegisters =
-    fill 32 0 (atStart (constant 250 0) (constant 250 stop) (constant 250 stackPointer) (domain (inputs 6 250)) (λ _. unknown 250))
+    fill 32 0 (atStart (constant lanes 0) (constant lanes stop) (constant lanes stackPointer) (domain (inputs firstInput lanes)) (λ _. unknown lanes))
 
 -- the code is where the run begins
 abbrev pub Begins : List ℕ → Rv32SymbolLayout → List ℕ → List ℕ → Progress → Type 0

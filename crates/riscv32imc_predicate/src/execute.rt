@@ -16,7 +16,7 @@ ghost use mathlib.Core.Path.{_≡_};
 ghost use Prim.Native.Nat.{_+_};
 ghost use lib.Dec.{leb};
 ghost use lib.ListN.{length};
-ghost use Rattle.lane_word.specs.Word.{unary};
+ghost use Rattle.lane_word.specs.Word.{unary, lanes};
 ghost use Rattle.predicate_action.specs.Action.{extensionOf};
 ghost use Rattle.lane_memory.specs.Rows.{rowCount, newBytes};
 ghost use Rattle.lane_access.specs.Answers.{verdictOf};
@@ -81,7 +81,7 @@ fn extend_value(value: u32, extension: Extension) -> u32
 
 // The same, lane by lane.
 pub fn extend(word: LaneWord, extension: Extension) -> LaneWord
-    ensures { λ r. ⌜ (r ≡ unary (extensionOf extension) word) × (length (r .values) ≡ 250) ⌝ }
+    ensures { λ r. ⌜ (r ≡ unary (extensionOf extension) word) × (length (r .values) ≡ lanes) ⌝ }
 {
     match extension {
         Extension::Byte => word.sign_extend(8),
@@ -188,46 +188,21 @@ pub fn execute(
     match action {
         Action::Nothing => Change::Goes { next },
         Action::Literal { rd, value } => Change::Sets { rd, value, next },
-        Action::Compute {
-            rd,
-            function: _,
-            rs1: _,
-            rs2: _,
-        } => compute(rd, tested, next),
-        Action::ComputeImmediate {
-            rd,
-            function: _,
-            rs1: _,
-            immediate: _,
-        } => compute(rd, tested, next),
+        Action::Compute { rd, .. } => compute(rd, tested, next),
+        Action::ComputeImmediate { rd, .. } => compute(rd, tested, next),
         Action::Jump { rd, target } => Change::Sets {
             rd,
             value: next,
             next: target,
         },
-        Action::JumpTo {
-            rd,
-            rs1: _,
-            offset: _,
-        } => jump_to(rd, tested, next),
-        Action::Branch {
-            test: _,
-            rs1: _,
-            rs2: _,
-            target,
-        } => branch(tested, target, next),
+        Action::JumpTo { rd, .. } => jump_to(rd, tested, next),
+        Action::Branch { target, .. } => branch(tested, target, next),
         Action::Load {
             rd,
-            rs1: _,
-            offset: _,
             width,
             extension,
+            ..
         } => load(rd, tested, width, extension, next, image, rows),
-        Action::Store {
-            rs1: _,
-            rs2: _,
-            offset: _,
-            width,
-        } => store(tested, width, next, image.len(), rows, written),
+        Action::Store { width, .. } => store(tested, width, next, image.len(), rows, written),
     }
 }

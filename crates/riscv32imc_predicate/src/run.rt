@@ -33,7 +33,7 @@ use predicate_semantics::PredicateTransducerExecution;
 use predicate_semantics::Rv32SymbolLayout;
 ghost use mathlib.Core.Path.{_≡_};
 ghost use mathlib.Core.List.{[]};
-ghost use Rattle.lane_word.specs.Word.{constant};
+ghost use Rattle.lane_word.specs.Word.{constant, lanes};
 ghost use Rattle.predicate_semantics.specs.Program.{inMemory, placed};
 ghost use Rattle.predicate_semantics.specs.Blank.{noExecution};
 ghost use Rattle.lane_memory.specs.Rows.{rowCount, cleared};
@@ -162,7 +162,7 @@ fn store_lanes(rows: &mut [u8], address: u32, width: u32, word: LaneWord) -> u32
 
 // The same of one value in every lane.
 fn store_told(rows: &mut [u8], address: u32, width: u32, value: u32) -> u32
-    ensures { λ r. ⌜ Stores (now (rows .entry)) address width (constant 250 value) r (now (rows .exit)) ⌝ }
+    ensures { λ r. ⌜ Stores (now (rows .entry)) address width (constant lanes value) r (now (rows .exit)) ⌝ }
 {
     let new = lane_memory::new_bytes(rows, address, width);
     lane_memory::store_value(rows, address, width, value);
@@ -225,12 +225,12 @@ fn advance(
         let change = decide(progress, tested, image, rows, trace.len() / ENTRY_BYTES);
         let mut new: u32 = 0;
         match change {
-            Change::Goes { next: _ } => {}
-            Change::Sets { rd, value, next: _ } => {
+            Change::Goes { .. } => {}
+            Change::Sets { rd, value, .. } => {
                 let slot = slot_of(rd);
                 told[slot] = Uniform::Value(value);
             }
-            Change::Computes { rd, next: _ } => {
+            Change::Computes { rd, .. } => {
                 let slot = slot_of(rd);
                 told[slot] = tested;
                 registers.words[slot] = computed;
@@ -240,17 +240,13 @@ fn advance(
                 address,
                 width,
                 extension,
-                next: _,
+                ..
             } => {
                 let slot = slot_of(rd);
                 told[slot] = Uniform::Uneven;
                 registers.words[slot] = load_lanes(image, rows, address, width, extension);
             }
-            Change::Stores {
-                address,
-                width,
-                next: _,
-            } => {
+            Change::Stores { address, width, .. } => {
                 recorded = located(recorded, pc, address, width, event_count);
                 match second {
                     Uniform::Value(value) => new = store_told(rows, address, width, value),

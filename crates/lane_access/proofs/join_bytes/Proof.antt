@@ -6,7 +6,7 @@ use borrow.Author.Needs.{needs}
 use denote.Ref.{now}
 use lib.ListN.{length}
 use Rattle.riscv32imc.specs.Bits.{join}
-use Rattle.lane_word.specs.Word.{constant, binary}
+use Rattle.lane_word.specs.Word.{constant, binary, lanes}
 use Rattle.lane_memory.proofs.Laws.{joined-word}
 use Rattle.lane_access.specs.Seen.{seen}
 use Rattle.lane_access.proofs.Loads.{rest, rest-none, rest-more, rest-all}
@@ -15,7 +15,7 @@ use Rattle.lane_access.proofs.join_bytes.Tie as tie
 
 abbrev I : tie.InvT-loop
 I image rows address width values₀ known₀ left₀ values known left =
-    (left ≤ width) × (length values ≡ 250) × (record { values = values; known = known } ≡ rest (seen image rows) width address left)
+    (left ≤ width) × (length values ≡ lanes) × (record { values = values; known = known } ≡ rest (seen image rows) width address left)
 
 pub join-bytes-spec : {M : Type 1} → statement M
 unfolding constant

@@ -1,5 +1,6 @@
 use mathlib.Core.Path.{refl, sym, ap, _∙_}
 use borrow.Author.Needs.{needs}
+use Rattle.lane_word.specs.Word.{lanes}
 use Rattle.riscv32imc.specs.Arithmetic.{add, target}
 use Rattle.riscv32imc.specs.Value.{valueOf}
 use Rattle.lane_word.proofs.Told.{constant-size, binary-size}
@@ -38,7 +39,7 @@ execute-spec =
     ))
     (λ c. rw (c .before .before .action3 .given .1) (
       λ p l s g left right o.
-          c .compute2 .ensures .0 _ _ _ (binary-size _ left _ (o .left-size) (constant-size 250 _)) (o .told) ∙ sym (immediate-is g _ _ (o .first) _ _ _),
+          c .compute2 .ensures .0 _ _ _ (binary-size _ left _ (o .left-size) (constant-size lanes _)) (o .told) ∙ sym (immediate-is g _ _ (o .first) _ _ _),
       c .compute2 .ensures .1,
     ))
     (λ c. rw (c .before .action4 .given .1) (λ p l s g left right o. sym (jump-is g _ _ _), tt))

@@ -1,6 +1,7 @@
 use mathlib.Core.Path.{_≡_, refl, sym, _∙_}
 use lib.ListN.{length}
 use borrow.Author.Needs.{needs}
+use Rattle.lane_word.specs.Word.{lanes}
 use Rattle.lane_word.proofs.Words.{unary-id}
 use Rattle.lane_word.proofs.Told.{unary-size}
 use Rattle.predicate_semantics.specs.Meaning.{byte, halfword}
@@ -18,13 +19,13 @@ extend-spec =
     (λ c. search needs)
     (λ c.
     let w = c .before .before .before .args .word in
-    let z : length (w .values) ≡ 250 = search needs in
+    let z : length (w .values) ≡ lanes = search needs in
     rw (c .before .enum-told .given .1, c .sign-extend .ensures) (refl, unary-size byte w ∙ z))
     (λ c.
     let w = c .before .before .before .args .word in
-    let z : length (w .values) ≡ 250 = search needs in
+    let z : length (w .values) ≡ lanes = search needs in
     rw (c .before .enum-told2 .given .1, c .sign-extend2 .ensures) (refl, unary-size halfword w ∙ z))
     (λ c.
     let w = c .before .before .args .word in
-    let z : length (w .values) ≡ 250 = search needs in
+    let z : length (w .values) ≡ lanes = search needs in
     rw (c .enum-told3 .given .1) (sym (unary-id w), z)))

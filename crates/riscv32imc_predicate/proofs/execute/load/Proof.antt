@@ -1,6 +1,7 @@
 use mathlib.Core.Path.{sym, ap, _∙_}
 use borrow.Author.Needs.{needs}
 use denote.Ref.{now}
+use Rattle.lane_word.specs.Word.{lanes}
 use Rattle.lane_word.proofs.Told.{unary-constant}
 use Rattle.predicate_semantics.specs.Refusal.{_>>=_}
 use Rattle.lane_access.specs.Seen.{seen}
@@ -35,7 +36,7 @@ load-spec =
             v .agreed .given .1,
             access-inside (seen (now (a .image)) (now (a .rows))) (a .width) (v .agreed .given .0 .0) (h .0),
             h .1,
-            unary-constant (extensionOf (a .extension)) 250 (l .loading .given .0 .0),
+            unary-constant (extensionOf (a .extension)) lanes (l .loading .given .0 .0),
             c .extend-value .ensures,
           ),
       tt,

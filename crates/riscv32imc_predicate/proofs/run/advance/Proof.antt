@@ -12,7 +12,7 @@ use Rattle.riscv32imc.specs.Value.{valueOf}
 use Rattle.lane_word.specs.declared.LaneWord.{LaneWord}
 use Rattle.lane_word.specs.declared.Uniform.{Uniform}
 use Rattle.lane_word.specs.declared.Uniform.the-variants.{Value}
-use Rattle.lane_word.specs.Word.{uniformOf}
+use Rattle.lane_word.specs.Word.{uniformOf, lanes}
 use Rattle.lane_word.specs.Told.{wordOf, toldBy}
 use Rattle.riscv32imc_predicate.specs.declared.Registers.{Registers}
 use Rattle.riscv32imc_predicate.specs.declared.Recorded.{Recorded}
@@ -241,7 +241,7 @@ advance-spec =
     let r = t .before in
     let s = r .before .before .before .before in
     looped-start (now (s .args .image)) (s .args .symbols) (now (s .args .rows)) (now (s .args .trace)) (r .start-registers .result .words) (t .start-told .result) (u .unknown .result) (c .start-recorded .result) (s .args .first)
-    (rw (t .start-told .ensures) (r .start-registers .ensures)) (rw (u .unknown .ensures) (unknown-size 250)) (c .start-recorded .ensures) (s .pre))
+    (rw (t .start-told .ensures) (r .start-registers .ensures)) (rw (u .unknown .ensures) (unknown-size lanes)) (c .start-recorded .ensures) (s .pre))
     (λ c. omega (arith, below-first (c .before)))
     (λ c. omega (arith, below-first (c .before)))
     (λ c. omega (arith, below-second (c .before .before)))

@@ -2,6 +2,7 @@ use mathlib.Core.Path.{_≡_, refl}
 use borrow.Author.Needs.{needs}
 use denote.Ref.{now}
 use lib.ListN.{length}
+use Rattle.lane_word.specs.Word.{lanes}
 use Rattle.lane_memory.proofs.Laws.{holds-store, cleared-store}
 use Rattle.riscv32imc_predicate.proofs.run.store_lanes.Statement.{statement}
 use Rattle.riscv32imc_predicate.proofs.run.store_lanes.Tie as tie
@@ -18,7 +19,7 @@ store-lanes-spec =
     let n = s .before .before in
     let t = n .before .before .before in
     let a = t .args in
-    let z : length (a .word .values) ≡ 250 = search (needs, t .good .1 .1 .1 .0) in
+    let z : length (a .word .values) ≡ lanes = search (needs, t .good .1 .1 .1 .0) in
     rw (s .store .ensures) (record {
       fresh = n .new-bytes .ensures;
       same-rows = cleared-store (now (a .rows)) (a .width) (a .address) (a .word) z;
