@@ -7,7 +7,7 @@ use Prim.Native.Nat.{ℕ, zero, suc, _*_, _≤_}
 use native.Mathlib.Omega.{arith}
 use lib.Dec.{leb}
 use lib.ListN.{length, take, drop, length-append}
-use lib.Seq.{take-append-seam}
+use lib.Seq.{length-take-le, take-append-seam}
 use borrow.Author.Tests.{leb-true, le-leb}
 use Rattle.little_endian.specs.Number.{AllBytes}
 use Rattle.little_endian.specs.Pack.{AllFit}
@@ -19,15 +19,17 @@ use Rattle.predicate_semantics.specs.declared.PredicateTransducerExecution.{Pre
 use Rattle.predicate_semantics.specs.Blank.{noEvents}
 use Rattle.predicate_semantics.specs.Trace.{stepWidths, stepValues, traceBytes, stepsAt}
 use Rattle.predicate_semantics.proofs.TraceLaws.{length-trace, trace-back}
+use Rattle.lane_record.specs.declared.RecordRefusal.{RecordRefusal}
 use Rattle.lane_record.specs.declared.RecordAnswer.{RecordAnswer}
 use Rattle.lane_record.specs.declared.RecordAnswer.the-variants as answer
 use Rattle.lane_record.specs.declared.RecordOutcome.{RecordOutcome}
 use Rattle.lane_record.specs.Format.{step, widths, Record, accepted, refused, encode, FitsRecord}
 use Rattle.lane_record.specs.Rules.{link, begins, linked, valid}
 use Rattle.lane_record.specs.Decode.{ruled, decode}
-use Rattle.lane_record.specs.Answers.{Said, done, wrote, refuses, noOutcome, acceptedOutcome, readAnswer, readOutcome, readTrace, acceptedGiven, givenAccepted, givenBy, given, writeAnswer, writeOutput}
+use Rattle.lane_record.specs.Answers.{Said, done, wrote, refuses, noOutcome, refusedOutcome, acceptedOutcome, readAnswer, readOutcome, readTrace, acceptedGiven, givenAccepted, givenRefused, givenBy, given, writeAnswer, writeOutput}
+use Rattle.lane_record.specs.RoundTrip.{countedBy, entriesBy, FitsBy, ReadBack, Rewritten}
 use Rattle.lane_record.proofs.TestLaws.{both, yes}
-use Rattle.lane_record.proofs.DecodeLaws.{ruled-some, values-steps, rules, decode-encode, Same, decode-same}
+use Rattle.lane_record.proofs.DecodeLaws.{ruled-some, values-steps, steps-fit, rules, decode-encode, Same, decode-same}
 
 -- ---- entries of a trace
 led-nil : (z n : ℕ) (bs : List ℕ) → Led [] z n bs
@@ -61,41 +63,64 @@ linked-snoc end (x ∷ y ∷ ss) s l k =
     yes (b .0) (linked-snoc end (y ∷ ss) s (b .1) k)
 
 -- ---- written, then read
-given-valid : (a : RecordAnswer) (o : RecordOutcome) (t : List ℕ) (x : Record) → givenBy a (o .execution) (o .events) t ≡ some x → valid x ≡ true
-given-valid answer.Accepted o t x g =
-    let r : Record = acceptedGiven (o .execution) (o .events) t in
-    let u = ruled-some (leb (o .execution .«symbolic_transitions» * 13) (length t) && valid r) r x g in
-    subst (λ (y : Record). valid y ≡ true) (u .1) (both (leb (o .execution .«symbolic_transitions» * 13) (length t)) (valid r) (u .0) .1)
-given-valid (answer.Refused f) o t x g =
-    let u = ruled-some (valid (refused f)) (refused f) x g in
-    subst (λ (y : Record). valid y ≡ true) (u .1) (u .0)
+-- what an accepted outcome and a trace that keep the rules stand for
+given-accepted : (e : PredicateTransducerExecution) (es : List CompiledMmioEvent) (t : List ℕ) (x : Record) → givenAccepted e es t ≡ some x
+    → (e .«symbolic_transitions» * 13 ≤ length t) × (valid (acceptedGiven e es t) ≡ true) × (acceptedGiven e es t ≡ x)
+given-accepted e es t x g =
+    let r : Record = acceptedGiven e es t in
+    let u = ruled-some (leb (e .«symbolic_transitions» * 13) (length t) && valid r) r x g in
+    let w = both (leb (e .«symbolic_transitions» * 13) (length t)) (valid r) (u .0) in
+    (leb-true _ _ (w .0), w .1, u .1)
 
--- the bytes that the writer leaves read as the record that it was given
-pub write-read : (o : RecordOutcome) (t out : List ℕ) (x : Record) → given o t ≡ some x → FitsRecord x → length (encode x) ≤ length out
-    → decode (take (length (encode x)) (writeOutput (given o t) out)) ≡ some x
-write-read o t out x g f l =
-    ap (λ (q : Option Record). decode (take (length (encode x)) (writeOutput q out))) g
-    ∙ ap (λ (w : Bool). decode (take (length (encode x)) (cond w (over (encode x) out) out))) (le-leb _ _ l)
-    ∙ ap decode (take-append-seam (encode x) (drop (length (encode x)) out))
-    ∙ decode-encode x f (given-valid (o .answer) o t x g)
+given-refused : (f : RecordRefusal) (x : Record) → givenRefused f ≡ some x → (valid (refused f) ≡ true) × (refused f ≡ x)
+given-refused f x g = ruled-some (valid (refused f)) (refused f) x g
 
--- of an accepted one the reader then gives the fields, the first events and the entries that the writer was given
-pub read-back : (o : RecordOutcome) (t t2 : List ℕ) (x : Record) → o .answer ≡ answer.Accepted → AllBytes t → given o t ≡ some x
-    → o .execution .«symbolic_transitions» * 13 ≤ length t2
-    → (readAnswer (some x) (length t2) ≡ done)
-    × (readOutcome (some x) (length t2) ≡ acceptedOutcome (o .execution) (take (o .execution .«event_count») (o .events)))
-    × (readTrace (some x) t2 ≡ over (take (o .execution .«symbolic_transitions» * 13) t) t2)
-read-back o t t2 x a b g l =
-    let e : PredicateTransducerExecution = o .execution in
-    let r : Record = acceptedGiven e (o .events) t in
-    let u = ruled-some (leb (e .«symbolic_transitions» * 13) (length t) && valid r) r x (rw a at g) in
-    let k = leb-true _ _ (both (leb (e .«symbolic_transitions» * 13) (length t)) (valid r) (u .0) .0) in
-    let n = le-leb (e .«symbolic_transitions» * 13) (length t2) l in
+given-valid : (a : RecordAnswer) (e : PredicateTransducerExecution) (es : List CompiledMmioEvent) (t : List ℕ) (x : Record) → givenBy a e es t ≡ some x
+    → valid x ≡ true
+given-valid answer.Accepted e es t x g = let u = given-accepted e es t x g in subst (λ (y : Record). valid y ≡ true) (u .2) (u .1)
+given-valid (answer.Refused f) e es t x g = let u = given-refused f x g in subst (λ (y : Record). valid y ≡ true) (u .1) (u .0)
+
+given-fits : (a : RecordAnswer) (e : PredicateTransducerExecution) (es : List CompiledMmioEvent) (t : List ℕ) (x : Record) → givenBy a e es t ≡ some x
+    → FitsBy a e es → AllBytes t → FitsRecord x
+given-fits answer.Accepted e es t x g f b =
+    let u = given-accepted e es t x g in subst FitsRecord (u .2) (f .0, f .1, steps-fit 0 (e .«symbolic_transitions») t b (u .0))
+given-fits (answer.Refused r) e es t x g f b = subst FitsRecord (given-refused r x g .1) f
+
+-- the bytes that the writer wrote are those of the record that it was given
+wrote-bytes : (x : Record) (out : List ℕ) (n : ℕ) (w : Bool) → cond {A = Said} w (wrote (length (encode x))) (refuses 16) ≡ wrote n
+    → take n (cond w (over (encode x) out) out) ≡ encode x
+wrote-bytes x out n true e = let m : length (encode x) ≡ n = cc in rw (← m) (take-append-seam (encode x) (drop (length (encode x)) out))
+wrote-bytes x out n false e = let z : _≡_ {A = ℕ} 0 1 = cc in absurd (omega arith)
+
+wrote-given : (q : Option Record) (out : List ℕ) (n : ℕ) → writeAnswer q (length out) ≡ wrote n
+    → (x : Record) × (q ≡ some x) × (take n (writeOutput q out) ≡ encode x)
+wrote-given none out n e = let z : _≡_ {A = ℕ} 0 1 = cc in absurd (omega arith)
+wrote-given (some x) out n e = (x, refl, wrote-bytes x out n (leb (length (encode x)) (length out)) e)
+
+-- of that record the reader gives what counts of the outcome, and the entries
+given-read : (a : RecordAnswer) (e : PredicateTransducerExecution) (es : List CompiledMmioEvent) (t t2 : List ℕ) (x : Record) → givenBy a e es t ≡ some x
+    → AllBytes t → length (entriesBy a e t) ≤ length t2
+    → (readAnswer (some x) (length t2) ≡ done) × (readOutcome (some x) (length t2) ≡ countedBy a e es) × (readTrace (some x) t2 ≡ over (entriesBy a e t) t2)
+given-read answer.Accepted e es t t2 x g b l =
+    let u = given-accepted e es t x g in
+    let n = le-leb (e .«symbolic_transitions» * 13) (length t2) (omega (arith, length-take-le (e .«symbolic_transitions» * 13) t (u .0))) in
     subst (λ (y : Record).
     (readAnswer (some y) (length t2) ≡ done)
-    × (readOutcome (some y) (length t2) ≡ acceptedOutcome e (take (e .«event_count») (o .events)))
+    × (readOutcome (some y) (length t2) ≡ acceptedOutcome e (take (e .«event_count») es))
     × (readTrace (some y) t2 ≡ over (take (e .«symbolic_transitions» * 13) t) t2))
-    (u .1) (rw n, rw n, rw (n, entries-same (e .«symbolic_transitions») t b k))
+    (u .2) (rw n, rw n, rw (n, entries-same (e .«symbolic_transitions») t b (u .0)))
+given-read (answer.Refused f) e es t t2 x g b l =
+    subst (λ (y : Record).
+    (readAnswer (some y) (length t2) ≡ done) × (readOutcome (some y) (length t2) ≡ refusedOutcome f) × (readTrace (some y) t2 ≡ t2))
+    (given-refused f x g .1) (refl, refl, refl)
+
+pub read-back : ReadBack
+read-back o t out f b n w t2 l =
+    let s = wrote-given (given o t) out n w in
+    let v = given-valid (o .answer) (o .execution) (o .events) t (s .0) (s .1) in
+    let d : decode (take n (writeOutput (given o t) out)) ≡ some (s .0) =
+    ap decode (s .2) ∙ decode-encode (s .0) (given-fits (o .answer) (o .execution) (o .events) t (s .0) (s .1) f b) v in
+    rw d (given-read (o .answer) (o .execution) (o .events) t t2 (s .0) (s .1) b l)
 
 -- ---- read, then written
 module _ (e : PredicateTransducerExecution) (es : List CompiledMmioEvent) (ss : List PredicateControlStep) (t : List ℕ)
@@ -112,17 +137,17 @@ module _ (e : PredicateTransducerExecution) (es : List CompiledMmioEvent) (ss : 
   again false d = let z : _≡_ {A = ℕ} 0 1 = cc in absurd (omega arith)
 
 -- what was read stands for the record that was read
-pub read-write : (bs t : List ℕ) (x : Record) → AllBytes bs → decode bs ≡ some x → readAnswer (some x) (length t) ≡ done
+read-write : (bs t : List ℕ) (x : Record) → AllBytes bs → decode bs ≡ some x → readAnswer (some x) (length t) ≡ done
     → given (readOutcome (some x) (length t)) (readTrace (some x) t) ≡ some x
 read-write bs t (refused f) b e d = let s = decode-same bs b (refused f) e in rw (s .rules)
 read-write bs t (accepted h es ss) b e d =
     let s = decode-same bs b (accepted h es ss) e in again h es ss t (s .fits) (s .rules) (leb (h .«symbolic_transitions» * 13) (length t)) d
 
 -- so it is written again byte for byte
-pub rewritten : (bs t out : List ℕ) (x : Record) → AllBytes bs → decode bs ≡ some x → readAnswer (some x) (length t) ≡ done → length bs ≤ length out
+record-rewritten : (bs t out : List ℕ) (x : Record) → AllBytes bs → decode bs ≡ some x → readAnswer (some x) (length t) ≡ done → length bs ≤ length out
     → (writeAnswer (given (readOutcome (some x) (length t)) (readTrace (some x) t)) (length out) ≡ wrote (length bs))
     × (writeOutput (given (readOutcome (some x) (length t)) (readTrace (some x) t)) out ≡ over bs out)
-rewritten bs t out x b e d l =
+record-rewritten bs t out x b e d l =
     let s = decode-same bs b x e in
     let g = read-write bs t x b e d in
     let n = le-leb (length bs) (length out) l in (
@@ -133,3 +158,14 @@ rewritten bs t out x b e d l =
           ∙ ap (λ (y : List ℕ). cond (leb (length y) (length out)) (over y out) out) (s .bytes)
           ∙ ap (λ (w : Bool). cond w (over bs out) out) n,
     )
+
+-- bytes that the reader takes are a record
+taken : (q : Option Record) (n : ℕ) → readAnswer q n ≡ done → (x : Record) × (q ≡ some x)
+taken none n d = let z : _≡_ {A = ℕ} 0 1 = cc in absurd (omega arith)
+taken (some x) n d = (x, refl)
+
+pub rewritten : Rewritten
+rewritten bs t b d out l =
+    let s = taken (decode bs) (length t) d in
+    let e = s .1 in
+    rw e (record-rewritten bs t out (s .0) b e (rw e at d) l)

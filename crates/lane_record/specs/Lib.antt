@@ -3,4 +3,5 @@ pub mod Format
 pub mod Rules
 pub mod Decode
 pub mod Answers
+pub mod RoundTrip
 pub mod Runs
