@@ -20,7 +20,7 @@ use Rattle.lane_record.specs.declared.ReadAnswer.the-variants as read
 use Rattle.lane_record.specs.declared.RecordReading.{RecordReading}
 use Rattle.lane_record.specs.declared.WriteAnswer.{WriteAnswer}
 use Rattle.lane_record.specs.declared.WriteAnswer.the-variants as write
-use Rattle.lane_record.specs.Format.{Record, accepted, refused, encode, FitsRecord}
+use Rattle.lane_record.specs.Format.{entryBytes, Record, accepted, refused, encode, FitsRecord}
 use Rattle.lane_record.specs.Rules.{valid}
 use Rattle.lane_record.specs.Decode.{ruled, decode}
 
@@ -66,19 +66,19 @@ noReading a = record { answer = a; outcome = noOutcome }
 abbrev pub readAnswer : Option Record → ℕ → Said
 readAnswer none n = refuses 15
 readAnswer (some (refused f)) n = done
-readAnswer (some (accepted e es ss)) n = cond (leb (e .«symbolic_transitions» * 13) n) done (refuses 14)
+readAnswer (some (accepted e es ss)) n = cond (leb (e .«symbolic_transitions» * entryBytes) n) done (refuses 14)
 
 -- the first item's fields and the events by value, zeros after the last
 abbrev pub readOutcome : Option Record → ℕ → RecordOutcome
 readOutcome none n = noOutcome
 readOutcome (some (refused f)) n = refusedOutcome f
-readOutcome (some (accepted e es ss)) n = cond (leb (e .«symbolic_transitions» * 13) n) (acceptedOutcome e es) noOutcome
+readOutcome (some (accepted e es ss)) n = cond (leb (e .«symbolic_transitions» * entryBytes) n) (acceptedOutcome e es) noOutcome
 
 -- the steps in the lent trace, whose later entries stay untouched; 15 and 14 write nothing
 abbrev pub readTrace : Option Record → List ℕ → List ℕ
 readTrace none t = t
 readTrace (some (refused f)) t = t
-readTrace (some (accepted e es ss)) t = cond (leb (e .«symbolic_transitions» * 13) (length t)) (over (traceBytes ss) t) t
+readTrace (some (accepted e es ss)) t = cond (leb (e .«symbolic_transitions» * entryBytes) (length t)) (over (traceBytes ss) t) t
 
 pub record Reads (q : Option Record) (t : List ℕ) (r : RecordReading) (t′ : List ℕ) : Type 0 where
   pub answer : readSaid (r .answer) ≡ readAnswer q (length t)
@@ -99,7 +99,7 @@ acceptedGiven e es t = accepted e (take (e .«event_count») es) (stepsAt 0 (e .
 -- a trace shorter than the steps breaks the rules
 abbrev pub givenAccepted : PredicateTransducerExecution → List CompiledMmioEvent → List ℕ → Option Record
 givenAccepted e es t =
-    ruled (leb (e .«symbolic_transitions» * 13) (length t) && valid (acceptedGiven e es t)) (acceptedGiven e es t)
+    ruled (leb (e .«symbolic_transitions» * entryBytes) (length t) && valid (acceptedGiven e es t)) (acceptedGiven e es t)
 
 abbrev pub givenRefused : RecordRefusal → Option Record
 givenRefused f = ruled (valid (refused f)) (refused f)

@@ -25,12 +25,12 @@ refusalAt bs = refusalOf (unpack (widths refusal) (drop 1 bs))
 
 -- where the steps begin: after 01 and its events
 abbrev pub stepsFrom : PredicateTransducerExecution → ℕ
-stepsFrom e = 21 + e .«event_count» * 17
+stepsFrom e = size heading + e .«event_count» * size event
 
 -- the events and steps that the first item counts
 abbrev pub acceptedAt : PredicateTransducerExecution → List ℕ → Record
 acceptedAt e bs =
-    accepted e (eventsAt (e .«event_count») (drop 21 bs)) (stepsAt 1 (e .«symbolic_transitions») (drop (stepsFrom e) bs))
+    accepted e (eventsAt (e .«event_count») (drop (size heading) bs)) (stepsAt 1 (e .«symbolic_transitions») (drop (stepsFrom e) bs))
 
 -- n bytes, each z from the one before, are all m
 abbrev pub marks : ℕ → ℕ → ℕ → List ℕ → Bool
@@ -44,9 +44,9 @@ marked k n bs = marks (mark k) (size k) n bs
 -- the bytes are just the items that the first one counts, each of its kind; no byte may follow
 abbrev pub acceptedForm : PredicateTransducerExecution → List ℕ → Bool
 acceptedForm e bs =
-    eqb (length bs) (stepsFrom e + e .«symbolic_transitions» * 14)
+    eqb (length bs) (stepsFrom e + e .«symbolic_transitions» * size step)
     && eqb (getD bs 0 0) (mark heading)
-    && marked event (e .«event_count») (drop 21 bs)
+    && marked event (e .«event_count») (drop (size heading) bs)
     && marked step (e .«symbolic_transitions») (drop (stepsFrom e) bs)
 
 -- a record, if the test holds
@@ -55,7 +55,7 @@ ruled test r = cond test (some r) none
 
 -- one 7F that keeps the rules; 01, its events and its steps that do
 abbrev pub refusedIn : List ℕ → Option Record
-refusedIn bs = ruled (eqb (length bs) 7 && valid (refused (refusalAt bs))) (refused (refusalAt bs))
+refusedIn bs = ruled (eqb (length bs) (size refusal) && valid (refused (refusalAt bs))) (refused (refusalAt bs))
 
 abbrev pub acceptedIn : PredicateTransducerExecution → List ℕ → Option Record
 acceptedIn e bs = ruled (acceptedForm e bs && valid (acceptedAt e bs)) (acceptedAt e bs)

@@ -11,7 +11,7 @@ use Rattle.predicate_semantics.specs.declared.PredicateTransducerExecution.{Pre
 use Rattle.lane_record.specs.declared.RecordAnswer.{RecordAnswer}
 use Rattle.lane_record.specs.declared.RecordAnswer.the-variants as answer
 use Rattle.lane_record.specs.declared.RecordOutcome.{RecordOutcome}
-use Rattle.lane_record.specs.Format.{heading, event, refusal, widths, executionValues, eventValues, refusalValues}
+use Rattle.lane_record.specs.Format.{heading, event, refusal, widths, entryBytes, executionValues, eventValues, refusalValues}
 use Rattle.lane_record.specs.Decode.{decode}
 use Rattle.lane_record.specs.Answers.{done, wrote, refusedOutcome, acceptedOutcome, readAnswer, readOutcome, readTrace, given, writeAnswer, writeOutput}
 
@@ -25,7 +25,7 @@ counted o = countedBy (o .answer) (o .execution) (o .events)
 
 -- what counts of the trace beside it: an entry for each step; after a refusal none
 abbrev pub entriesBy : RecordAnswer → PredicateTransducerExecution → List ℕ → List ℕ
-entriesBy answer.Accepted e t = take (e .«symbolic_transitions» * 13) t
+entriesBy answer.Accepted e t = take (e .«symbolic_transitions» * entryBytes) t
 entriesBy (answer.Refused f) e t = []
 
 abbrev pub entries : RecordOutcome → List ℕ → List ℕ

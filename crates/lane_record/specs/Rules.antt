@@ -1,11 +1,14 @@
 -- The record's rules (document 01, "Record"): the one definition that its writer and its reader cite.
 use mathlib.Core.Bool.{Bool, true, cond, _&&_, _||_}
 use mathlib.Core.List.{List, [], _∷_}
-use Prim.Native.Nat.{ℕ, _*_}
+use Prim.Native.Nat.{ℕ, _-_, _*_}
 use lib.Dec.{eqb, leb}
 use lib.ListN.{length}
+use Rattle.riscv32imc.specs.Constants.{maxMemoryBytes, maxSteps}
+use Rattle.lane_word.specs.Word.{firstInput, lanes}
 use Rattle.predicate_semantics.specs.declared.PredicateControlStep.{PredicateControlStep}
 use Rattle.predicate_semantics.specs.declared.PredicateTransducerExecution.{PredicateTransducerExecution}
+use Rattle.predicate_semantics.specs.Program.{stop}
 use Rattle.lane_record.specs.declared.RecordRefusal.{RecordRefusal}
 use Rattle.lane_record.specs.Format.{Record, accepted, refused}
 
@@ -13,19 +16,27 @@ use Rattle.lane_record.specs.Format.{Record, accepted, refused}
 abbrev pub within : ℕ → ℕ → ℕ → Bool
 within low x high = leb low x && leb x high
 
+-- the fewest written bytes: stop's four
+abbrev pub minWrittenBytes : ℕ
+minWrittenBytes = 4
+
+-- the most, 2,097,151: all of memory but the image, which is never written and has a byte at least
+abbrev pub maxWrittenBytes : ℕ
+maxWrittenBytes = maxMemoryBytes - 1
+
+-- the most events
+abbrev pub maxEvents : ℕ
+maxEvents = 32
+
 -- 6, 250, steps 1 to 1,000,000, lane operations 250 × steps, written bytes 4 to 2,097,151, at most 32 events
 abbrev pub executionValid : PredicateTransducerExecution → Bool
 executionValid e =
-    eqb (e .«first_input») 6
-    && eqb (e .«lane_count») 250
-    && within 1 (e .«symbolic_transitions») 1000000
-    && eqb (e .«lane_value_operations») (250 * e .«symbolic_transitions»)
-    && within 4 (e .«sparse_memory_bytes») 2097151
-    && leb (e .«event_count») 32
-
--- where the run ends
-abbrev pub stop : ℕ
-stop = 0x801FFFFC
+    eqb (e .«first_input») firstInput
+    && eqb (e .«lane_count») lanes
+    && within 1 (e .«symbolic_transitions») maxSteps
+    && eqb (e .«lane_value_operations») (lanes * e .«symbolic_transitions»)
+    && within minWrittenBytes (e .«sparse_memory_bytes») maxWrittenBytes
+    && leb (e .«event_count») maxEvents
 
 -- a step of length 2 or 4 that names the counter c as the next
 abbrev pub link : PredicateControlStep → ℕ → Bool
@@ -47,7 +58,7 @@ roleValid number role = cond (eqb number 6 || eqb number 7) (within 1 role 10) (
 
 -- refusal 1 to 14, its role, completed steps at most 1,000,000
 abbrev pub refusalValid : RecordRefusal → Bool
-refusalValid f = within 1 (f .number) 14 && roleValid (f .number) (f .role) && leb (f .steps) 1000000
+refusalValid f = within 1 (f .number) 14 && roleValid (f .number) (f .role) && leb (f .steps) maxSteps
 
 -- the rules, all of them; the first item says how many events and steps there are
 abbrev pub valid : Record → Bool

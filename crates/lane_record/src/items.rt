@@ -13,10 +13,30 @@ ghost use mathlib.Core.Path.{_≡_};
 ghost use Prim.Native.Nat.{_+_, _≤_};
 ghost use lib.ListN.{length, drop};
 ghost use lib.Seq.{sets};
-ghost use Rattle.little_endian.specs.Pack.{pack, unpack, Fits};
+ghost use Rattle.little_endian.specs.Pack.{total, pack, unpack, Fits};
 ghost use Rattle.predicate_semantics.specs.Trace.{stepWidths, stepValues, stepOf};
-ghost use Rattle.lane_record.specs.Format.{heading, event, refusal, widths, item, executionValues, eventValues, eventOf, refusalValues};
+ghost use Rattle.lane_record.specs.Format.{heading, event, refusal, widths, size, entryBytes, item, executionValues, eventValues, eventOf, refusalValues};
 ghost use Rattle.lane_record.specs.Decode.{executionAt, refusalAt};
+
+// The bytes of kind.
+pub const HEADING: u8 = 0x01;
+
+pub const EVENT: u8 = 0x02;
+
+pub const STEP: u8 = 0x03;
+
+pub const REFUSAL: u8 = 0x7F;
+
+// The bytes of an item: its kind and its fields. A step's body is an entry of a trace.
+pub const HEADING_BYTES: usize = 1 + 1 + 2 + 4 + 4 + 4 + 4 + 1;
+
+pub const EVENT_BYTES: usize = 1 + 4 + 4 + 4 + 4;
+
+pub const ENTRY_BYTES: usize = 4 + 4 + 1 + 4;
+
+pub const STEP_BYTES: usize = 1 + ENTRY_BYTES;
+
+pub const REFUSAL_BYTES: usize = 1 + 1 + 1 + 4;
 
 pub fn execution_at(s: &[u8]) -> PredicateTransducerExecution
     ensures { λ r. ⌜ r ≡ executionAt (now (s .entry)) ⌝ }
@@ -43,7 +63,7 @@ pub fn refusal_at(s: &[u8]) -> RecordRefusal
 }
 
 pub fn event_at(s: &[u8], at: usize) -> CompiledMmioEvent
-    requires { ⌜ at + 16 ≤ length (now s) ⌝ }
+    requires { ⌜ at + total (widths event) ≤ length (now s) ⌝ }
     ensures { λ r. ⌜ r ≡ eventOf (unpack (widths event) (drop at (now (s .entry)))) ⌝ }
 {
     CompiledMmioEvent {
@@ -55,7 +75,7 @@ pub fn event_at(s: &[u8], at: usize) -> CompiledMmioEvent
 }
 
 pub fn step_at(s: &[u8], at: usize) -> PredicateControlStep
-    requires { ⌜ at + 13 ≤ length (now s) ⌝ }
+    requires { ⌜ at + entryBytes ≤ length (now s) ⌝ }
     ensures { λ r. ⌜ r ≡ stepOf (unpack stepWidths (drop at (now (s .entry)))) ⌝ }
 {
     PredicateControlStep {
@@ -69,7 +89,7 @@ pub fn step_at(s: &[u8], at: usize) -> PredicateControlStep
 pub fn put_execution(s: &mut [u8], e: PredicateTransducerExecution)
     ensures { λ r. ⌜ now (s .exit) ≡ sets (now (s .entry)) 0 (item heading (executionValues e)) ⌝ }
 {
-    put_u8(s, 0, 0x01);
+    put_u8(s, 0, HEADING);
     put_u8(s, 1, e.first_input);
     put_u16(s, 2, e.lane_count);
     put_u32(s, 4, e.return_value);
@@ -82,7 +102,7 @@ pub fn put_execution(s: &mut [u8], e: PredicateTransducerExecution)
 pub fn put_refusal(s: &mut [u8], f: RecordRefusal)
     ensures { λ r. ⌜ now (s .exit) ≡ sets (now (s .entry)) 0 (item refusal (refusalValues f)) ⌝ }
 {
-    put_u8(s, 0, 0x7F);
+    put_u8(s, 0, REFUSAL);
     put_u8(s, 1, f.number);
     put_u8(s, 2, f.role);
     put_u32(s, 3, f.steps);
@@ -90,10 +110,10 @@ pub fn put_refusal(s: &mut [u8], f: RecordRefusal)
 
 // An event's numbers fit their places, which only its type says: so it is said here, where one is at hand.
 pub fn put_event(s: &mut [u8], at: usize, e: CompiledMmioEvent)
-    requires { ⌜ at + 17 ≤ length (now s) ⌝ }
+    requires { ⌜ at + size event ≤ length (now s) ⌝ }
     ensures { λ r. ⌜ (now (s .exit) ≡ sets (now (s .entry)) at (item event (eventValues e))) × Fits (widths event) (eventValues e) ⌝ }
 {
-    put_u8(s, at, 0x02);
+    put_u8(s, at, EVENT);
     put_u32(s, at + 1, e.operation);
     put_u32(s, at + 5, e.offset);
     put_u32(s, at + 9, e.value);

@@ -9,6 +9,9 @@ use predicate_semantics::PredicateTransducerExecution;
 ghost use Rattle.lane_record.specs.Decode.{decode};
 ghost use Rattle.lane_record.specs.Answers.{Reads, Exact, Writes, given};
 
+// The most events of a record.
+pub const MAX_EVENTS: usize = 32;
+
 // A run's refusal as an item 7F holds it.
 pub struct RecordRefusal {
     pub number: u8,
@@ -26,7 +29,7 @@ pub enum RecordAnswer {
 pub struct RecordOutcome {
     pub answer: RecordAnswer,
     pub execution: PredicateTransducerExecution,
-    pub events: [CompiledMmioEvent; 32],
+    pub events: [CompiledMmioEvent; MAX_EVENTS],
 }
 
 // What the reader answers: the record is read, or 15, or 14.
@@ -52,7 +55,7 @@ pub enum WriteAnswer {
 pub fn read_record(bytes: &[u8], trace: &mut [u8]) -> RecordReading
     ensures { λ r. ⌜ Reads (decode (now (bytes .entry))) (now (trace .entry)) r (now (trace .exit)) × Exact (now (bytes .entry)) ⌝ }
 {
-    if little_endian::get_u8(bytes, 0) == 0x7F {
+    if little_endian::get_u8(bytes, 0) == items::REFUSAL {
         return reader::read_refused(bytes);
     }
     reader::read_accepted(bytes, trace)

@@ -1,9 +1,18 @@
 // Reading: every rule is tested before anything is written.
+use super::MAX_EVENTS;
 use super::ReadAnswer;
 use super::RecordAnswer;
 use super::RecordOutcome;
 use super::RecordReading;
 use super::RecordRefusal;
+use super::items::ENTRY_BYTES;
+use super::items::EVENT;
+use super::items::EVENT_BYTES;
+use super::items::HEADING;
+use super::items::HEADING_BYTES;
+use super::items::REFUSAL_BYTES;
+use super::items::STEP;
+use super::items::STEP_BYTES;
 use super::items::event_at;
 use super::items::execution_at;
 use super::items::refusal_at;
@@ -23,7 +32,8 @@ ghost use lib.ListN.{length, drop};
 ghost use lib.Seq.{sets};
 ghost use Rattle.predicate_semantics.specs.Blank.{noEvents};
 ghost use Rattle.predicate_semantics.specs.Trace.{traceBytes, stepsAt};
-ghost use Rattle.lane_record.specs.Rules.{valid};
+ghost use Rattle.lane_record.specs.Format.{heading, event, step, size, entryBytes};
+ghost use Rattle.lane_record.specs.Rules.{maxEvents, valid};
 ghost use Rattle.lane_record.specs.Decode.{executionAt, eventsAt, acceptedAt, acceptedForm, acceptedIn, refusedIn, marks};
 ghost use Rattle.lane_record.specs.Answers.{refusedReading, noReading, Reads};
 
@@ -50,22 +60,25 @@ fn accepted_form(s: &[u8], e: PredicateTransducerExecution) -> bool
 {
     let events = e.event_count as usize;
     let steps = e.symbolic_transitions as usize;
-    let from = 21 + events * 17;
-    if s.len() != from + steps * 14 {
+    let from = HEADING_BYTES + events * EVENT_BYTES;
+    if s.len() != from + steps * STEP_BYTES {
         return false;
     }
-    let headed = little_endian::get_u8(s, 0) == 0x01;
-    let listed = and(headed, kinds_are(s, 21, 0x02, 17, events));
-    let formed = and(listed, kinds_are(s, from, 0x03, 14, steps));
+    let headed = little_endian::get_u8(s, 0) == HEADING;
+    let listed = and(
+        headed,
+        kinds_are(s, HEADING_BYTES, EVENT, EVENT_BYTES, events),
+    );
+    let formed = and(listed, kinds_are(s, from, STEP, STEP_BYTES, steps));
     and(
         formed,
         and(execution_valid(e), steps_linked(s, from, 1, steps)),
     )
 }
 
-fn take_events(s: &[u8], n: usize) -> [CompiledMmioEvent; 32]
-    requires { ⌜ (n ≤ 32) × (21 + n * 17 ≤ length (now s)) ⌝ }
-    ensures { λ r. ⌜ r ≡ sets noEvents 0 (eventsAt n (drop 21 (now (s .entry)))) ⌝ }
+fn take_events(s: &[u8], n: usize) -> [CompiledMmioEvent; MAX_EVENTS]
+    requires { ⌜ (n ≤ maxEvents) × (size heading + n * size event ≤ length (now s)) ⌝ }
+    ensures { λ r. ⌜ r ≡ sets noEvents 0 (eventsAt n (drop (size heading) (now (s .entry)))) ⌝ }
 {
     let none = CompiledMmioEvent {
         operation: 0,
@@ -73,20 +86,20 @@ fn take_events(s: &[u8], n: usize) -> [CompiledMmioEvent; 32]
         value: 0,
         location: 0,
     };
-    let mut events = [none; 32];
+    let mut events = [none; MAX_EVENTS];
     let mut k = 0;
-    let mut at = 21;
+    let mut at = HEADING_BYTES;
     while k < n {
         let e = event_at(s, at + 1);
         events[k] = e;
         k += 1;
-        at += 17;
+        at += EVENT_BYTES;
     }
     events
 }
 
 fn take_steps(trace: &mut [u8], s: &[u8], start: usize, n: usize)
-    requires { ⌜ (n * 13 ≤ length (now trace)) × (start + n * 14 ≤ length (now s)) ⌝ }
+    requires { ⌜ (n * entryBytes ≤ length (now trace)) × (start + n * size step ≤ length (now s)) ⌝ }
     ensures { λ r. ⌜ now (trace .exit) ≡ sets (now (trace .entry)) 0 (traceBytes (stepsAt 1 n (drop start (now (s .entry))))) ⌝ }
 {
     let mut left = n;
@@ -96,8 +109,8 @@ fn take_steps(trace: &mut [u8], s: &[u8], start: usize, n: usize)
         let step = step_at(s, from + 1);
         put_entry(trace, at, step);
         left -= 1;
-        at += 13;
-        from += 14;
+        at += ENTRY_BYTES;
+        from += STEP_BYTES;
     }
 }
 
@@ -119,7 +132,7 @@ fn refused_reading(answer: ReadAnswer, f: RecordRefusal) -> RecordReading
         sparse_memory_bytes: 0,
         event_count: 0,
     };
-    let events = [none; 32];
+    let events = [none; MAX_EVENTS];
     let outcome = RecordOutcome {
         answer: RecordAnswer::Refused(f),
         execution: execution,
@@ -148,7 +161,7 @@ fn no_reading(answer: ReadAnswer) -> RecordReading
 pub fn read_refused(bytes: &[u8]) -> RecordReading
     ensures { λ r. ⌜ ((t : List ℕ) → Reads (refusedIn (now (bytes .entry))) t r t) ⌝ }
 {
-    if bytes.len() != 7 {
+    if bytes.len() != REFUSAL_BYTES {
         return no_reading(ReadAnswer::RulesBroken);
     }
     let refusal = refusal_at(bytes);
@@ -167,10 +180,10 @@ pub fn read_accepted(bytes: &[u8], trace: &mut [u8]) -> RecordReading
     }
     let events = execution.event_count as usize;
     let steps = execution.symbolic_transitions as usize;
-    if trace.len() < steps * 13 {
+    if trace.len() < steps * ENTRY_BYTES {
         return no_reading(ReadAnswer::TraceTooShort);
     }
-    take_steps(trace, bytes, 21 + events * 17, steps);
+    take_steps(trace, bytes, HEADING_BYTES + events * EVENT_BYTES, steps);
     let list = take_events(bytes, events);
     let outcome = RecordOutcome {
         answer: RecordAnswer::Accepted,

@@ -1,17 +1,30 @@
 // The record's rules, as tests.
+use super::MAX_EVENTS;
 use super::RecordRefusal;
+use super::items::ENTRY_BYTES;
 use super::items::step_at;
+use lane_word::LaneWord;
 use predicate_semantics::PredicateControlStep;
 use predicate_semantics::PredicateTransducerExecution;
 ghost use mathlib.Core.Path.{_≡_};
 ghost use mathlib.Core.Bool.{cond, _&&_, _||_};
 ghost use Prim.Native.Nat.{_+_, _*_, _≤_};
 ghost use lib.ListN.{length, drop};
+ghost use Rattle.predicate_semantics.specs.Program.{stop};
 ghost use Rattle.predicate_semantics.specs.Trace.{stepsAt};
+ghost use Rattle.lane_record.specs.Format.{entryBytes};
 ghost use Rattle.lane_record.specs.Rules as rules;
 
 // Where a run ends.
 const STOP: u32 = 0x801F_FFFC;
+
+// The most steps of a run.
+const MAX_STEPS: u32 = riscv32imc::MAX_RV32_STEPS as u32;
+
+// Written bytes: stop's four at least; at most all of memory but the image, which is never written and has a byte at least.
+const MIN_WRITTEN_BYTES: u32 = 4;
+
+const MAX_WRITTEN_BYTES: u32 = riscv32imc::MAX_RV32_MEMORY_BYTES as u32 - 1;
 
 // Called where an operator would part a function's one answer into several ways to prove.
 pub fn and(a: bool, b: bool) -> bool
@@ -42,15 +55,21 @@ pub fn execution_valid(e: PredicateTransducerExecution) -> bool
     ensures { λ r. ⌜ r ≡ rules.executionValid e ⌝ }
 {
     let steps = e.symbolic_transitions;
-    let inputs = and(e.first_input == 6, e.lane_count == 250);
-    let bounded = and(inputs, within(1, steps, 1_000_000));
+    let inputs = and(
+        e.first_input == LaneWord::FIRST_INPUT,
+        e.lane_count as usize == LaneWord::LANES,
+    );
+    let bounded = and(inputs, within(1, steps, MAX_STEPS));
     let counted = and(
         bounded,
-        e.lane_value_operations as u64 == 250 * (steps as u64),
+        e.lane_value_operations as u64 == (LaneWord::LANES as u64) * (steps as u64),
     );
     and(
-        and(counted, within(4, e.sparse_memory_bytes, 2_097_151)),
-        e.event_count <= 32,
+        and(
+            counted,
+            within(MIN_WRITTEN_BYTES, e.sparse_memory_bytes, MAX_WRITTEN_BYTES),
+        ),
+        e.event_count as usize <= MAX_EVENTS,
     )
 }
 
@@ -69,7 +88,7 @@ pub fn refusal_valid(f: RecordRefusal) -> bool
 {
     and(
         and(within(1, f.number as u32, 14), role_valid(f.number, f.role)),
-        f.steps <= 1_000_000,
+        f.steps <= MAX_STEPS,
     )
 }
 
@@ -84,8 +103,8 @@ fn links(step: PredicateControlStep, next: u32) -> bool
 
 // The counter of the first of n steps, each after p other bytes; without a step, stop.
 fn begins_at(s: &[u8], from: usize, p: usize, n: usize) -> u32
-    requires { ⌜ from + n * (p + 13) ≤ length (now s) ⌝ }
-    ensures { λ r. ⌜ r ≡ rules.begins rules.stop (stepsAt p n (drop from (now (s .entry)))) ⌝ }
+    requires { ⌜ from + n * (p + entryBytes) ≤ length (now s) ⌝ }
+    ensures { λ r. ⌜ r ≡ rules.begins stop (stepsAt p n (drop from (now (s .entry)))) ⌝ }
 {
     if 0 < n {
         little_endian::get_u32(s, from + p)
@@ -96,14 +115,14 @@ fn begins_at(s: &[u8], from: usize, p: usize, n: usize) -> u32
 
 // n steps, each after p other bytes: 1 in a record, none in a trace.
 pub fn steps_linked(s: &[u8], from: usize, p: usize, n: usize) -> bool
-    requires { ⌜ from + n * (p + 13) ≤ length (now s) ⌝ }
-    ensures { λ r. ⌜ r ≡ rules.linked rules.stop (stepsAt p n (drop from (now (s .entry)))) ⌝ }
+    requires { ⌜ from + n * (p + entryBytes) ≤ length (now s) ⌝ }
+    ensures { λ r. ⌜ r ≡ rules.linked stop (stepsAt p n (drop from (now (s .entry)))) ⌝ }
 {
     let mut at = from;
     let mut left = n;
     while 0 < left {
         let step = step_at(s, at + p);
-        at += p + 13;
+        at += p + ENTRY_BYTES;
         left -= 1;
         if !links(step, begins_at(s, at, p, left)) {
             return false;

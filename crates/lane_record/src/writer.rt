@@ -1,6 +1,13 @@
 // Writing: the rules and then the output's length are tested before anything is written.
+use super::MAX_EVENTS;
 use super::RecordRefusal;
 use super::WriteAnswer;
+use super::items::ENTRY_BYTES;
+use super::items::EVENT_BYTES;
+use super::items::HEADING_BYTES;
+use super::items::REFUSAL_BYTES;
+use super::items::STEP;
+use super::items::STEP_BYTES;
 use super::items::put_event;
 use super::items::put_execution;
 use super::items::put_refusal;
@@ -20,27 +27,28 @@ ghost use lib.Dec.{leb};
 ghost use lib.ListN.{length, take};
 ghost use lib.Seq.{sets};
 ghost use Rattle.little_endian.specs.Pack.{AllFit};
+ghost use Rattle.predicate_semantics.specs.Program.{stop};
 ghost use Rattle.predicate_semantics.specs.Trace.{stepValues, stepsAt};
-ghost use Rattle.lane_record.specs.Format.{event, step, widths, items, eventValues};
-ghost use Rattle.lane_record.specs.Rules.{executionValid, linked, stop};
+ghost use Rattle.lane_record.specs.Format.{heading, event, step, widths, size, entryBytes, items, eventValues};
+ghost use Rattle.lane_record.specs.Rules.{maxEvents, executionValid, linked};
 ghost use Rattle.lane_record.specs.Answers.{givenAccepted, givenRefused, Writes};
 
-fn put_events(s: &mut [u8], events: [CompiledMmioEvent; 32], n: usize)
-    requires { ⌜ (n ≤ 32) × (21 + n * 17 ≤ length (now s)) ⌝ }
-    ensures { λ r. ⌜ (now (s .exit) ≡ sets (now (s .entry)) 21 (items event (map eventValues (take n events)))) × AllFit (widths event) (map eventValues (take n events)) ⌝ }
+fn put_events(s: &mut [u8], events: [CompiledMmioEvent; MAX_EVENTS], n: usize)
+    requires { ⌜ (n ≤ maxEvents) × (size heading + n * size event ≤ length (now s)) ⌝ }
+    ensures { λ r. ⌜ (now (s .exit) ≡ sets (now (s .entry)) (size heading) (items event (map eventValues (take n events)))) × AllFit (widths event) (map eventValues (take n events)) ⌝ }
 {
     let mut k = 0;
-    let mut at = 21;
+    let mut at = HEADING_BYTES;
     while k < n {
         let e = events[k];
         put_event(s, at, e);
         k += 1;
-        at += 17;
+        at += EVENT_BYTES;
     }
 }
 
 fn put_steps(s: &mut [u8], to: usize, trace: &[u8], n: usize)
-    requires { ⌜ (to + n * 14 ≤ length (now s)) × (n * 13 ≤ length (now trace)) ⌝ }
+    requires { ⌜ (to + n * size step ≤ length (now s)) × (n * entryBytes ≤ length (now trace)) ⌝ }
     ensures { λ r. ⌜ now (s .exit) ≡ sets (now (s .entry)) to (items step (map stepValues (stepsAt 0 n (now (trace .entry))))) ⌝ }
 {
     let mut left = n;
@@ -48,19 +56,19 @@ fn put_steps(s: &mut [u8], to: usize, trace: &[u8], n: usize)
     let mut from = 0;
     while 0 < left {
         let entry = step_at(trace, from);
-        little_endian::put_u8(s, at, 0x03);
+        little_endian::put_u8(s, at, STEP);
         put_entry(s, at + 1, entry);
         left -= 1;
-        at += 14;
-        from += 13;
+        at += STEP_BYTES;
+        from += ENTRY_BYTES;
     }
 }
 
 fn writable(e: PredicateTransducerExecution, trace: &[u8]) -> bool
-    ensures { λ r. ⌜ r ≡ (leb (e .«symbolic_transitions» * 13) (length (now (trace .entry))) && (executionValid e && linked stop (stepsAt 0 (e .«symbolic_transitions») (now (trace .entry))))) ⌝ }
+    ensures { λ r. ⌜ r ≡ (leb (e .«symbolic_transitions» * entryBytes) (length (now (trace .entry))) && (executionValid e && linked stop (stepsAt 0 (e .«symbolic_transitions») (now (trace .entry))))) ⌝ }
 {
     let steps = e.symbolic_transitions as usize;
-    if trace.len() < steps * 13 {
+    if trace.len() < steps * ENTRY_BYTES {
         return false;
     }
     and(execution_valid(e), steps_linked(trace, 0, 0, steps))
@@ -68,7 +76,7 @@ fn writable(e: PredicateTransducerExecution, trace: &[u8]) -> bool
 
 pub fn write_accepted(
     e: PredicateTransducerExecution,
-    list: [CompiledMmioEvent; 32],
+    list: [CompiledMmioEvent; MAX_EVENTS],
     trace: &[u8],
     output: &mut [u8],
 ) -> WriteAnswer
@@ -79,8 +87,8 @@ pub fn write_accepted(
     }
     let events = e.event_count as usize;
     let steps = e.symbolic_transitions as usize;
-    let from = 21 + events * 17;
-    let size = from + steps * 14;
+    let from = HEADING_BYTES + events * EVENT_BYTES;
+    let size = from + steps * STEP_BYTES;
     if output.len() < size {
         return WriteAnswer::OutputTooShort;
     }
@@ -96,9 +104,9 @@ pub fn write_refused(f: RecordRefusal, output: &mut [u8]) -> WriteAnswer
     if !refusal_valid(f) {
         return WriteAnswer::RulesBroken;
     }
-    if output.len() < 7 {
+    if output.len() < REFUSAL_BYTES {
         return WriteAnswer::OutputTooShort;
     }
     put_refusal(output, f);
-    WriteAnswer::Written(7)
+    WriteAnswer::Written(REFUSAL_BYTES)
 }

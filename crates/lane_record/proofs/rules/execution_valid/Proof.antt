@@ -6,6 +6,7 @@ pub execution-valid-spec : {M : Type 1} → statement M
 execution-valid-spec =
     tie.close
     (tie.spec
+    (λ c. search needs)
     (λ c κs. search needs)
     (λ c κs. search needs)
     (λ c κs. search needs)
@@ -15,6 +16,7 @@ execution-valid-spec =
     (λ c κs. search needs)
     (λ c κs. search needs)
     (λ c κs. search needs)
+    (λ c. search needs)
     (λ c κs. search needs)
     (λ c.
     let d = c .before .before in let w = d .before in let k = w .before in let b = k .before .before in let v = b .before in let a = v .before in
