@@ -7,9 +7,9 @@ use native.Mathlib.Omega.{arith}
 use lib.ListN.{length, length-map}
 use lib.Pow.{pow-add}
 use Rattle.lane_word.specs.declared.LaneWord.{LaneWord}
-use Rattle.lane_word.specs.Word.{constant, unary}
+use Rattle.lane_word.specs.Word.{lanes, constant, unary}
 use Rattle.lane_word.proofs.Told.{unary-constant}
-use Rattle.lane_memory.specs.Rows.{lanes, byteValue, byteOf}
+use Rattle.lane_memory.specs.Rows.{byteValue, byteOf}
 
 -- a word of 32 bits has four bytes
 pub byte-beyond : (k x : ℕ) → x < 2 ^ 32 → 4 ≤ k → 0 ≡ byteValue k x

@@ -17,9 +17,9 @@ use Rattle.little_endian.proofs.NumberLaws.{below-take, below-drop}
 use Rattle.riscv32imc.specs.Bits.{join}
 use Rattle.lane_word.specs.declared.LaneWord.{LaneWord}
 use Rattle.lane_word.specs.declared.Uniform.the-variants.{Value, Uneven}
-use Rattle.lane_word.specs.Word.{constant, binary, zip}
+use Rattle.lane_word.specs.Word.{lanes, constant, binary, zip}
 use Rattle.predicate_semantics.specs.Memory.{Written, byteAt, put, write}
-use Rattle.lane_memory.specs.Rows.{lanes, rowCount, rowAt, laneByte, rowByte, held, findRow, findIn, byteValue, byteOf, laneRow, valueRow, writeRow, storeAt, storeRow, storeByte, storeRows, storeBytes, storeValues, loadAt, loadByte, joined, Joined, toldAt, toldByte, newAt, newBytes, unmarkRows, unmarked, cleared}
+use Rattle.lane_memory.specs.Rows.{rowCount, rowAt, laneByte, rowByte, held, findRow, findIn, byteValue, byteOf, laneRow, valueRow, writeRow, storeAt, storeRow, storeByte, storeRows, storeBytes, storeValues, loadAt, loadByte, joined, Joined, toldAt, toldByte, newAt, newBytes, unmarkRows, unmarked, cleared}
 use Rattle.lane_memory.specs.Holds.{lookup, content, one, Holds}
 use Rattle.lane_memory.specs.declared.Found.{Found}
 use Rattle.lane_memory.specs.declared.Found.the-variants.{At, Free, Full}

@@ -16,8 +16,8 @@ use Rattle.little_endian.specs.Number.{value, bytes}
 use Rattle.little_endian.proofs.NumberLaws.{value-bytes}
 use Rattle.little_endian.proofs.SetLaws.{sets-append}
 use Rattle.lane_word.specs.declared.LaneWord.{LaneWord}
-use Rattle.lane_word.specs.Word.{constant}
-use Rattle.lane_memory.specs.Rows.{lanes, rowAt, laneByte, rowByte, rowHolds, held, probe, headOf, laneRow, valueRow, writeRow}
+use Rattle.lane_word.specs.Word.{lanes, constant}
+use Rattle.lane_memory.specs.Rows.{rowAt, laneByte, rowByte, rowHolds, held, probe, headOf, laneRow, valueRow, writeRow}
 use Rattle.lane_memory.specs.declared.Probe.the-variants.{Empty, Match, Other}
 use Rattle.lane_memory.proofs.Search.{less?}
 

@@ -12,20 +12,20 @@ use Rattle.riscv32imc.specs.Bits as Bits
 use Rattle.lane_word.specs.declared.LaneWord.{LaneWord}
 use Rattle.lane_word.specs.declared.Uniform.{Uniform}
 use Rattle.lane_word.specs.declared.Uniform.the-variants.{Value, Uneven}
-use Rattle.lane_word.specs.Word.{constant, unary, zip}
+use Rattle.lane_word.specs.Word.{lanes, constant, unary, zip}
 use Rattle.predicate_semantics.specs.Memory.{Written}
 use Rattle.lane_memory.specs.declared.Probe.{Probe}
 use Rattle.lane_memory.specs.declared.Probe.the-variants.{Empty, Match, Other}
 use Rattle.lane_memory.specs.declared.Found.{Found}
 use Rattle.lane_memory.specs.declared.Found.the-variants.{At, Free, Full}
 
--- the size of a row, chosen once: a used mark, a known mark, a uniform mark, a zero, 4 bytes of address, 256 lane values of a byte each
-abbrev pub rowBytes : ℕ
-rowBytes = 264
+-- what a row starts with: a used mark, a known mark, a uniform mark, a zero, 4 bytes of address
+abbrev pub headBytes : ℕ
+headBytes = 8
 
--- how many of a row's lane values serve
-abbrev pub lanes : ℕ
-lanes = 250
+-- the size of a row, chosen once: its head, and 256 lane values of a byte each, of which the first serve, one for each lane
+abbrev pub rowBytes : ℕ
+rowBytes = headBytes + 256
 
 -- "Lent memory counts in whole rows"
 abbrev pub rowCount : List ℕ → ℕ
@@ -37,11 +37,11 @@ rowAt memory s = take rowBytes (drop (s * rowBytes) memory)
 
 -- the lanes of a row's bytes
 abbrev pub laneByte : List ℕ → LaneWord
-laneByte row = record { values = take lanes (drop 8 row); known = not (eqb (getD row 1 0) 0) }
+laneByte row = record { values = take lanes (drop headBytes row); known = not (eqb (getD row 1 0) 0) }
 
 -- the written byte in a row's bytes: where the uniform mark is not 0, lane value 0 serves for every lane
 abbrev pub rowByte : List ℕ → LaneWord
-rowByte row = cond (eqb (getD row 2 0) 0) (laneByte row) (constant lanes (getD row 8 0))
+rowByte row = cond (eqb (getD row 2 0) 0) (laneByte row) (constant lanes (getD row headBytes 0))
 
 -- what a row holds: nothing where its used mark is 0
 abbrev pub rowHolds : List ℕ → Option Written
@@ -82,9 +82,13 @@ unfoldable pub scan : (ℕ → Probe) → ℕ → ℕ → ℕ → Found
 scan P n zero s = Full
 scan P n (suc j) s = ending (P s) s (scan P n j (onward n j s))
 
--- 32 hops before all n rows, where there are as many
+-- how many hops a search makes
+abbrev pub hops : ℕ
+hops = 32
+
+-- they come before all n rows, where there are as many
 abbrev pub tries : ℕ → ℕ
-tries n = cond (ltb n 32) n (n + 32)
+tries n = cond (ltb n hops) n (n + hops)
 
 -- open addressing: hops from the address's remainder on, then all n rows
 abbrev pub findIn : (ℕ → Option Written) → ℕ → ℕ → Found
@@ -161,7 +165,7 @@ Joined b high known values = (known ≡ b .known) × (values ≡ joined b high)
 
 -- whether a row has one value for all lanes; what was not written has
 abbrev pub toldRow : List ℕ → Uniform
-toldRow row = cond (eqb (getD row 2 0) 0) Uneven (Value (getD row 8 0))
+toldRow row = cond (eqb (getD row 2 0) 0) Uneven (Value (getD row headBytes 0))
 
 abbrev pub toldAt : Found → List ℕ → ℕ → Uniform
 toldAt (At s) memory other = toldRow (rowAt memory s)

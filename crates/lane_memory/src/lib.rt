@@ -5,17 +5,21 @@ ghost use mathlib.Core.List.{map};
 ghost use Prim.Native.Nat.{_+_, _*_, _<_, _≤_, _^_};
 ghost use lib.ListN.{length};
 ghost use lib.Seq.{sets};
-ghost use Rattle.lane_word.specs.Word.{constant};
+ghost use Rattle.lane_word.specs.Word.{lanes, constant};
 ghost use Rattle.predicate_semantics.specs.Memory.{Written};
-ghost use Rattle.lane_memory.specs.Rows.{lanes, held, probe, next, hop, onward, tries, rowCount, findRow, byteValue, byteOf, headOf, laneRow, valueRow, writeRow, storeByte, storeValue, storeBytes, storeValues, rowAt, laneByte, rowByte, loadByte, joined, Joined, toldRow, toldByte, newAt, newBytes, unmarked, cleared};
+ghost use Rattle.lane_memory.specs.Rows.{headBytes, rowBytes, rowCount, held, probe, next, hop, onward, hops, tries, findRow, byteValue, byteOf, headOf, laneRow, valueRow, writeRow, storeByte, storeValue, storeBytes, storeValues, rowAt, laneByte, rowByte, loadByte, joined, Joined, toldRow, toldByte, newAt, newBytes, unmarked, cleared};
 use lane_word::LaneWord;
 use lane_word::Uniform;
 use riscv32imc::arithmetic::Binary;
 use riscv32imc::arithmetic::value;
 
-// A row: a used mark, a known mark, a uniform mark, a zero, the address in 4 bytes, 256 lane values of a byte each.
+// A row's head: a used mark, a known mark, a uniform mark, a zero, the address in 4 bytes.
+const HEAD_BYTES: usize = 8;
+// A row: its head and 256 lane values of a byte each.
 // Under a uniform mark the byte is known and lane value 0 serves for every lane.
-pub const ROW_BYTES: usize = 264;
+pub const ROW_BYTES: usize = HEAD_BYTES + 256;
+// How many hops a search makes before it looks at every row.
+const HOPS: usize = 32;
 
 // What a search for an address comes to: its row, a free row for it, or neither.
 pub enum Found {
@@ -39,7 +43,7 @@ pub fn row_count(rows: &[u8]) -> usize
 }
 
 fn look(rows: &[u8], row: usize, address: u32) -> Probe
-    requires { ⌜ row * 264 + 264 ≤ length (now rows) ⌝ }
+    requires { ⌜ row * rowBytes + rowBytes ≤ length (now rows) ⌝ }
     ensures { λ r. ⌜ r ≡ probe (held (now (rows .entry)) row) address ⌝ }
 {
     let at = row * ROW_BYTES;
@@ -83,12 +87,12 @@ fn onward(row: usize, count: usize, left: usize) -> usize
     hop(row, count)
 }
 
-// How many rows a search looks at: 32 hops first, where there are as many rows.
+// How many rows a search looks at: the hops first, where there are as many rows.
 fn tries(count: usize) -> usize
-    requires { ⌜ count + 32 < 2 ^ 64 ⌝ }
+    requires { ⌜ count + hops < 2 ^ 64 ⌝ }
     ensures { λ r. ⌜ r ≡ tries count ⌝ }
 {
-    if count < 32 { count } else { count + 32 }
+    if count < HOPS { count } else { count + HOPS }
 }
 
 // The row of an address, or one that it can take.
@@ -131,7 +135,7 @@ fn mark(known: bool) -> u8
 }
 
 fn write_head(rows: &mut [u8], at: usize, known: bool, uniform: bool, address: u32)
-    requires { ⌜ at + 8 ≤ length (now rows) ⌝ }
+    requires { ⌜ at + headBytes ≤ length (now rows) ⌝ }
     ensures { λ r. ⌜ now (rows .exit) ≡ sets (now (rows .entry)) at (headOf known uniform address) ⌝ }
 {
     rows[at] = 1;
@@ -141,25 +145,25 @@ fn write_head(rows: &mut [u8], at: usize, known: bool, uniform: bool, address: u
     little_endian::put_u32(rows, at + 4, address);
 }
 
-fn write_lanes(rows: &mut [u8], at: usize, values: [u32; 250], place: u32)
-    requires { ⌜ at + 250 ≤ length (now rows) ⌝ }
+fn write_lanes(rows: &mut [u8], at: usize, values: [u32; LaneWord::LANES], place: u32)
+    requires { ⌜ at + lanes ≤ length (now rows) ⌝ }
     ensures { λ r. ⌜ now (rows .exit) ≡ sets (now (rows .entry)) at (map (byteValue place) values) ⌝ }
 {
     let mut k: usize = 0;
-    while k < 250 {
+    while k < LaneWord::LANES {
         rows[at + k] = byte_of(values[k], place);
         k += 1;
     }
 }
 
 fn write_row(rows: &mut [u8], row: usize, address: u32, word: LaneWord, place: u32)
-    requires { ⌜ row * 264 + 264 ≤ length (now rows) ⌝ }
+    requires { ⌜ row * rowBytes + rowBytes ≤ length (now rows) ⌝ }
     ensures { λ r. ⌜ now (rows .exit) ≡ writeRow (now (rows .entry)) row (laneRow address (byteOf place word)) ⌝ }
 {
     let at = row * ROW_BYTES;
     write_head(rows, at, word.known, false, address);
     let values = word.values;
-    write_lanes(rows, at + 8, values, place);
+    write_lanes(rows, at + HEAD_BYTES, values, place);
 }
 
 // Store byte `place` of a word; a byte that finds no row is not stored.
@@ -186,12 +190,12 @@ pub fn store(rows: &mut [u8], address: u32, width: u32, word: LaneWord)
 }
 
 fn write_value(rows: &mut [u8], row: usize, address: u32, value: u8)
-    requires { ⌜ row * 264 + 264 ≤ length (now rows) ⌝ }
+    requires { ⌜ row * rowBytes + rowBytes ≤ length (now rows) ⌝ }
     ensures { λ r. ⌜ now (rows .exit) ≡ writeRow (now (rows .entry)) row (valueRow address value) ⌝ }
 {
     let at = row * ROW_BYTES;
     write_head(rows, at, true, true, address);
-    rows[at + 8] = value;
+    rows[at + HEAD_BYTES] = value;
 }
 
 // Store one value for all lanes; a byte that finds no row is not stored.
@@ -252,14 +256,14 @@ fn wide(x: u8) -> u32
 }
 
 fn read_lanes(rows: &[u8], row: usize) -> LaneWord
-    requires { ⌜ row * 264 + 264 ≤ length (now rows) ⌝ }
+    requires { ⌜ row * rowBytes + rowBytes ≤ length (now rows) ⌝ }
     ensures { λ r. ⌜ r ≡ laneByte (rowAt (now (rows .entry)) row) ⌝ }
 {
     let at = row * ROW_BYTES;
-    let first = at + 8;
-    let mut values = [0u32; 250];
+    let first = at + HEAD_BYTES;
+    let mut values = [0u32; LaneWord::LANES];
     let mut k: usize = 0;
-    while k < 250 {
+    while k < LaneWord::LANES {
         values[k] = wide(rows[first + k]);
         k += 1;
     }
@@ -273,20 +277,20 @@ fn every_lane(value: u8) -> LaneWord
     ensures { λ r. ⌜ r ≡ constant lanes value ⌝ }
 {
     LaneWord {
-        values: [wide(value); 250],
+        values: [wide(value); LaneWord::LANES],
         known: true,
     }
 }
 
 fn read_row(rows: &[u8], row: usize) -> LaneWord
-    requires { ⌜ row * 264 + 264 ≤ length (now rows) ⌝ }
+    requires { ⌜ row * rowBytes + rowBytes ≤ length (now rows) ⌝ }
     ensures { λ r. ⌜ r ≡ rowByte (rowAt (now (rows .entry)) row) ⌝ }
 {
     let at = row * ROW_BYTES;
     if rows[at + 2] == 0 {
         return read_lanes(rows, row);
     }
-    every_lane(rows[at + 8])
+    every_lane(rows[at + HEAD_BYTES])
 }
 
 // The byte at an address: the written one, or `other` in every lane.
@@ -302,14 +306,14 @@ pub fn load_byte(rows: &[u8], address: u32, other: u8) -> LaneWord
 }
 
 fn told_row(rows: &[u8], row: usize) -> Uniform
-    requires { ⌜ row * 264 + 264 ≤ length (now rows) ⌝ }
+    requires { ⌜ row * rowBytes + rowBytes ≤ length (now rows) ⌝ }
     ensures { λ r. ⌜ r ≡ toldRow (rowAt (now (rows .entry)) row) ⌝ }
 {
     let at = row * ROW_BYTES;
     if rows[at + 2] == 0 {
         return Uniform::Uneven;
     }
-    Uniform::Value(wide(rows[at + 8]))
+    Uniform::Value(wide(rows[at + HEAD_BYTES]))
 }
 
 // The byte at an address where one value is told for all lanes: no lane is compared.
@@ -339,13 +343,13 @@ pub fn join_value(low: u32, values: &mut [u32])
 }
 
 fn join_lanes(rows: &[u8], row: usize, values: &mut [u32])
-    requires { ⌜ row * 264 + 264 ≤ length (now rows) ⌝ }
+    requires { ⌜ row * rowBytes + rowBytes ≤ length (now rows) ⌝ }
     ensures { λ r. ⌜ now (values .exit) ≡ joined (laneByte (rowAt (now (rows .entry)) row)) (now (values .entry)) ⌝ }
 {
     if values.len() != LaneWord::LANES {
         return;
     }
-    let first = row * ROW_BYTES + 8;
+    let first = row * ROW_BYTES + HEAD_BYTES;
     let mut k: usize = 0;
     while k < LaneWord::LANES {
         values[k] = value(Binary::Join, wide(rows[first + k]), values[k]);
@@ -354,7 +358,7 @@ fn join_lanes(rows: &[u8], row: usize, values: &mut [u32])
 }
 
 fn join_row(rows: &[u8], row: usize, values: &mut [u32]) -> bool
-    requires { ⌜ row * 264 + 264 ≤ length (now rows) ⌝ }
+    requires { ⌜ row * rowBytes + rowBytes ≤ length (now rows) ⌝ }
     ensures { λ r. ⌜ Joined (rowByte (rowAt (now (rows .entry)) row)) (now (values .entry)) r (now (values .exit)) ⌝ }
 {
     let at = row * ROW_BYTES;
@@ -362,7 +366,7 @@ fn join_row(rows: &[u8], row: usize, values: &mut [u32]) -> bool
         join_lanes(rows, row, values);
         return rows[at + 1] != 0;
     }
-    join_value(wide(rows[at + 8]), values);
+    join_value(wide(rows[at + HEAD_BYTES]), values);
     true
 }
 
