@@ -5,7 +5,7 @@ use Rattle.riscv32imc.specs.declared.arithmetic.Binary.{Binary}
 use Rattle.riscv32imc.specs.declared.arithmetic.Binary.the-variants.{Add, Target}
 use Rattle.riscv32imc.specs.Value.{valueOf}
 use Rattle.lane_word.specs.declared.LaneWord.{LaneWord}
-use Rattle.lane_word.specs.Word.{constant, binary}
+use Rattle.lane_word.specs.Word.{lanes, constant, binary}
 use Rattle.predicate_action.specs.declared.Action.{Action}
 use Rattle.predicate_action.specs.declared.Action.the-variants.{Nothing, Literal, Compute, ComputeImmediate, Jump, JumpTo, Branch, Load, Store}
 use Rattle.predicate_action.specs.declared.Computation.{Computation}
@@ -32,7 +32,7 @@ computationOf (Store a b offset n) = withNumber Add offset
 
 -- the second operand, where the second source's word is w
 abbrev pub operandOf : Computation → LaneWord → LaneWord
-operandOf c w = cond (c .immediate) (constant 250 (c .operand)) w
+operandOf c w = cond (c .immediate) (constant lanes (c .operand)) w
 
 -- lane by lane
 abbrev pub computed : Computation → LaneWord → LaneWord → LaneWord
