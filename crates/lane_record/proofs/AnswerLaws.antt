@@ -84,7 +84,7 @@ module _ (e : PredicateTransducerExecution) (bs : List ℕ) where
             (eq-eqb _ _ (length-eventsAt (e .«event_count») (drop 21 bs))) (eq-eqb _ _ (length-stepsAt 1 (e .«symbolic_transitions») (drop (stepsFrom e) bs))),
       )
 
-  pub accepted-out : (acceptedForm e bs && valid (acceptedAt e bs)) ≡ false → acceptedIn e bs ≡ none
+  accepted-out : (acceptedForm e bs && valid (acceptedAt e bs)) ≡ false → acceptedIn e bs ≡ none
   accepted-out w = ap (λ (t : Bool). ruled t (acceptedAt e bs)) w
 
   accepted-in : (acceptedForm e bs && valid (acceptedAt e bs)) ≡ true → acceptedIn e bs ≡ some (acceptedAt e bs)
@@ -98,6 +98,13 @@ module _ (q : Option Record) (t : List ℕ) where
   pub reads-refused : {r : RecordReading} (f : RecordRefusal) → q ≡ some (refused f) → r ≡ refusedReading read.Read f → Reads q t r t
   reads-refused f p e = rw (p, e) (record { answer = refl; outcome = refl; trace = refl })
 
+-- where they fail, 15; where they pass and the trace is short, 14
+module _ (e : PredicateTransducerExecution) (bs : List ℕ) where
+  pub reads-not : (t : List ℕ) {r : RecordReading} (formed : Bool) → (acceptedForm e bs && valid (acceptedAt e bs)) ≡ formed
+      → (formed && leb (e .«symbolic_transitions» * 13) (length t)) ≡ false → r ≡ noReading (cond formed read.TraceTooShort read.RulesBroken) → Reads (acceptedIn e bs) t r t
+  reads-not t false w l p = reads-broken (acceptedIn e bs) t (accepted-out e bs w) p
+  reads-not t true w l p = rw (accepted-in e bs w, p) (record { answer = rw l; outcome = rw l; trace = rw l })
+
 -- where the tests of an accepted record pass
 module _ (e : PredicateTransducerExecution) (bs : List ℕ) (w : (acceptedForm e bs && valid (acceptedAt e bs)) ≡ true) where
   parts : (acceptedForm e bs ≡ true) × (valid (acceptedAt e bs) ≡ true)
@@ -108,9 +115,6 @@ module _ (e : PredicateTransducerExecution) (bs : List ℕ) (w : (acceptedForm e
 
   pub events-fit : e .«event_count» ≤ 32
   events-fit = few-events e (rules e (eventsAt (e .«event_count») (drop 21 bs)) (steps-in e bs) (parts .1) .0)
-
-  pub reads-short : (t : List ℕ) {r : RecordReading} → length t < e .«symbolic_transitions» * 13 → r ≡ noReading read.TraceTooShort → Reads (acceptedIn e bs) t r t
-  reads-short t l p = rw (accepted-in e bs w, p) (record { answer = rw (lt-leb _ _ l); outcome = rw (lt-leb _ _ l); trace = rw (lt-leb _ _ l) })
 
   pub reads-done : (t t′ : List ℕ) (list : List CompiledMmioEvent) → e .«symbolic_transitions» * 13 ≤ length t
       → list ≡ sets noEvents 0 (eventsAt (e .«event_count») (drop 21 bs)) → t′ ≡ sets t 0 (traceBytes (steps-in e bs))

@@ -25,7 +25,7 @@ use predicate_semantics::CompiledMmioEvent;
 use predicate_semantics::PredicateTransducerExecution;
 use predicate_semantics::put_entry;
 ghost use mathlib.Core.Path.{_≡_};
-ghost use mathlib.Core.Bool.{_&&_};
+ghost use mathlib.Core.Bool.{cond, _&&_};
 ghost use mathlib.Core.List.{List};
 ghost use Prim.Native.Nat.{ℕ, _+_, _*_, _≤_, _<_};
 ghost use lib.ListN.{length, drop};
@@ -157,6 +157,17 @@ fn no_reading(answer: ReadAnswer) -> RecordReading
     )
 }
 
+// 15 before 14: a trace is too short only for a record.
+fn refusal_of(formed: bool) -> ReadAnswer
+    ensures { λ r. ⌜ r ≡ cond formed ReadAnswer.TraceTooShort ReadAnswer.RulesBroken ⌝ }
+{
+    if formed {
+        ReadAnswer::TraceTooShort
+    } else {
+        ReadAnswer::RulesBroken
+    }
+}
+
 // Whatever trace is lent stays as it is.
 pub fn read_refused(bytes: &[u8]) -> RecordReading
     ensures { λ r. ⌜ ((t : List ℕ) → Reads (refusedIn (now (bytes .entry))) t r t) ⌝ }
@@ -175,13 +186,12 @@ pub fn read_accepted(bytes: &[u8], trace: &mut [u8]) -> RecordReading
     ensures { λ r. ⌜ Reads (acceptedIn (executionAt (now (bytes .entry))) (now (bytes .entry))) (now (trace .entry)) r (now (trace .exit)) ⌝ }
 {
     let execution = execution_at(bytes);
-    if !accepted_form(bytes, execution) {
-        return no_reading(ReadAnswer::RulesBroken);
-    }
     let events = execution.event_count as usize;
     let steps = execution.symbolic_transitions as usize;
-    if trace.len() < steps * ENTRY_BYTES {
-        return no_reading(ReadAnswer::TraceTooShort);
+    let formed = accepted_form(bytes, execution);
+    let room = steps * ENTRY_BYTES <= trace.len();
+    if !and(formed, room) {
+        return no_reading(refusal_of(formed));
     }
     take_steps(trace, bytes, HEADING_BYTES + events * EVENT_BYTES, steps);
     let list = take_events(bytes, events);

@@ -1,57 +1,66 @@
-use mathlib.Core.Path.{_≡_, sym, _∙_, subst}
+use mathlib.Core.Path.{_≡_, ap, sym, _∙_, subst}
 use mathlib.Core.Bool.{true, _&&_}
+use Prim.Native.Nat.{_*_, _≤_}
 use native.Mathlib.Omega.{arith}
+use lib.Dec.{leb}
+use lib.ListN.{length}
 use denote.Ref.{now}
 use borrow.Author.Needs.{needs}
-use borrow.Author.Tests.{not-true, not-false}
+use borrow.Author.Tests.{leb-true, not-true, not-false}
 use Rattle.predicate_semantics.specs.declared.PredicateTransducerExecution.{PredicateTransducerExecution}
 use Rattle.lane_record.specs.declared.RecordAnswer.the-variants as answer
 use Rattle.lane_record.specs.declared.ReadAnswer.the-variants as read
 use Rattle.lane_record.specs.declared.RecordReading.{RecordReading}
+use Rattle.lane_record.specs.Format.{entryBytes}
 use Rattle.lane_record.specs.Rules.{valid}
 use Rattle.lane_record.specs.Decode.{acceptedForm, acceptedAt, acceptedIn}
-use Rattle.lane_record.specs.Answers.{Reads}
-use Rattle.lane_record.proofs.AnswerLaws.{accepted-out, reads-broken, exact-length, events-fit, reads-short, reads-done}
+use Rattle.lane_record.specs.Answers.{noReading, Reads}
+use Rattle.lane_record.proofs.TestLaws.{both}
+use Rattle.lane_record.proofs.AnswerLaws.{exact-length, events-fit, reads-not, reads-done}
 use Rattle.lane_record.proofs.reader.read_accepted.Statement.{statement}
 use Rattle.lane_record.proofs.reader.read_accepted.Tie as tie
 
--- the tests passed
-passes : (c : tie.Else1) → let x = c .before .before in let bs = now (x .before .before .before .args .bytes) in
-    (acceptedForm (x .execution-at .result) bs && valid (acceptedAt (x .execution-at .result) bs)) ≡ true
-passes c = let f = c .before in sym (f .accepted-form .ensures) ∙ not-false (f .accepted-form .result) (c .if1 .left)
+-- the tests passed, and the trace has room
+passes : (c : tie.Else1) → let x = c .before .before .before .before .before in let a = x .before .before .before .args in let bs = now (a .bytes) in
+    ((acceptedForm (x .execution-at .result) bs && valid (acceptedAt (x .execution-at .result) bs)) ≡ true)
+    × (x .execution-at .result .«symbolic_transitions» * entryBytes ≤ length (now (a .trace)))
+passes c =
+    let n = c .before in let f = n .before in let x = f .before .before .before in
+    let room = leb (x .execution-at .result .«symbolic_transitions» * entryBytes) (length (now (x .before .before .before .args .trace))) in
+    let b = both (f .accepted-form .result) room (sym (n .and .ensures) ∙ not-false (n .and .result) (c .if1 .left)) in
+    (sym (f .accepted-form .ensures) ∙ b .0, leb-true _ _ (b .1))
 
 pub read-accepted-spec : {M : Type 1} → statement M
 read-accepted-spec =
     tie.close
     (tie.spec
     (λ c κs. search needs)
+    (λ c. search needs)
+    (λ c. search needs)
+    (λ c κs. search needs)
+    (λ c. search needs)
+    (λ c κs. search needs)
     (λ c κs. search needs)
     (λ c κs. search needs)
     (λ c.
-    let f = c .before .before in let x = f .before in let a = x .before .before .before .args in let bs = now (a .bytes) in let t = now (a .trace) in
+    let u = c .before in let n = u .before .before in let f = n .before in let x = f .before .before .before in let a = x .before .before .before .args in
+    let bs = now (a .bytes) in let t = now (a .trace) in
     subst (λ (e : PredicateTransducerExecution). Reads (acceptedIn e bs) t (c .no-reading .result) t) (x .execution-at .ensures)
-    (reads-broken (acceptedIn (x .execution-at .result) bs) t
-    (accepted-out (x .execution-at .result) bs (sym (f .accepted-form .ensures) ∙ not-true (f .accepted-form .result) (c .before .if1 .taken))) (c .no-reading .ensures)))
-    (λ c. search needs)
-    (λ c. search needs)
-    (λ c. search needs)
-    (λ c κs. search needs)
-    (λ c.
-    let p = c .before .before .before .before in let x = p .before .before in let a = x .before .before .before .args in let bs = now (a .bytes) in let t = now (a .trace) in
-    subst (λ (e : PredicateTransducerExecution). Reads (acceptedIn e bs) t (c .no-reading2 .result) t) (x .execution-at .ensures)
-    (reads-short (x .execution-at .result) bs (passes p) t (c .before .if2 .taken) (c .no-reading2 .ensures)))
+    (reads-not (x .execution-at .result) bs t (f .accepted-form .result) (sym (f .accepted-form .ensures))
+    (sym (n .and .ensures) ∙ not-true (n .and .result) (u .before .if1 .taken))
+    (c .no-reading .ensures ∙ ap noReading (u .refusal-of .ensures))))
     (λ c. search needs)
     (λ c. search needs)
     (λ c κs.
-    let p = c .before .before .before .before in let x = p .before .before in
-    (c .before .if2 .left, omega (arith, exact-length (x .execution-at .result) (now (x .before .before .before .args .bytes)) (passes p))))
+    let p = c .before in let x = p .before .before .before .before .before in
+    (passes p .1, omega (arith, exact-length (x .execution-at .result) (now (x .before .before .before .args .bytes)) (passes p .0))))
     (λ c κs.
-    let p = c .before .before .before .before .before .before .before in let x = p .before .before in let bs = now (x .before .before .before .args .bytes) in
-    (events-fit (x .execution-at .result) bs (passes p), omega (arith, exact-length (x .execution-at .result) bs (passes p))))
+    let p = c .before .before .before .before in let x = p .before .before .before .before .before in let bs = now (x .before .before .before .args .bytes) in
+    (events-fit (x .execution-at .result) bs (passes p .0), omega (arith, exact-length (x .execution-at .result) bs (passes p .0))))
     (λ c. c .before .before .before .take-steps .kept .0)
     (λ c.
-    let s = c .before .before .before in let p = s .before .before .before .before .before in let x = p .before .before in let a = x .before .before .before .args in
+    let s = c .before .before .before in let p = s .before .before in let x = p .before .before .before .before .before in let a = x .before .before .before .args in
     let bs = now (a .bytes) in let t = now (a .trace) in
     let r : RecordReading = record { answer = read.Read; outcome = record { answer = answer.Accepted; execution = x .execution-at .result; events = c .take-events .result } } in
     subst (λ (e : PredicateTransducerExecution). Reads (acceptedIn e bs) t r (s .take-steps .last .0)) (x .execution-at .ensures)
-    (reads-done (x .execution-at .result) bs (passes p) t (s .take-steps .last .0) (c .take-events .result) (s .before .before .if2 .left) (c .take-events .ensures) (s .take-steps .ensures))))
+    (reads-done (x .execution-at .result) bs (passes p .0) t (s .take-steps .last .0) (c .take-events .result) (passes p .1) (c .take-events .ensures) (s .take-steps .ensures))))
