@@ -21,6 +21,9 @@ use riscv_decode::Fetched;
 use riscv32imc::Expanded;
 use riscv32imc::arithmetic::Binary;
 
+// The address past memory's end.
+pub const RV32_MEMORY_END: u32 = 0x8020_0000;
+
 // What a word that is not known or not uniform was read for.
 pub enum Role {
     Fetch,
@@ -90,7 +93,7 @@ pub fn range_of(address: u32, width: u32) -> Verdict
     if address < riscv32imc::RV32_IMAGE_BASE {
         return Verdict::Refused(Rv32Error::BelowMemory);
     }
-    if 0x8020_0000 < (address as u64) + (width as u64) {
+    if (RV32_MEMORY_END as u64) < (address as u64) + (width as u64) {
         return Verdict::Refused(Rv32Error::PastMemory);
     }
     Verdict::Passed

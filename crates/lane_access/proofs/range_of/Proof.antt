@@ -12,5 +12,6 @@ range-of-spec =
     (tie.spec
     (λ c. rw (lt-leb _ _ (c .if1 .taken)))
     (λ c. search needs)
+    (λ c. search needs)
     (λ c. rw (le-leb _ _ (c .before .if1 .left), lt-leb _ _ (c .if2 .taken)))
     (λ c. rw (le-leb _ _ (c .before .if1 .left), le-leb _ _ (c .if2 .left))))
