@@ -18,7 +18,7 @@ use Rattle.lane_memory.specs.Holds.{Holds}
 use Rattle.lane_memory.proofs.Laws.{holds-load}
 use Rattle.lane_access.specs.Seen.{offsetOf, seen, Above}
 -- where a test of range passed
-pub use Rattle.lane_access.proofs.Loads.{inside-fits, agreed-is, access-inside, access-outside, accessed-word}
+pub use Rattle.lane_access.proofs.Loads.{inside-fits, agreed-is, access-inside, access-outside, accessed-word, loads}
 
 -- below every written address memory is as given
 byte-below : (other : LaneWord) (e a : ℕ) (m : List Written) → a < e → Above e m → byteAt other a m ≡ other

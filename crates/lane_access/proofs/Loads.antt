@@ -1,6 +1,6 @@
 -- What the tests of a load and the parts of a fetch come to. Assumes nothing.
-use mathlib.Core.Path.{_≡_, refl, sym, ap, _∙_}
-use mathlib.Core.Bool.{Bool, true, false, cond}
+use mathlib.Core.Path.{_≡_, refl, sym, ap, ap₂, _∙_}
+use mathlib.Core.Bool.{Bool, true, false, cond, true≢false}
 use mathlib.Core.List.{List, [], _∷_}
 use Prim.Native.Nat.{ℕ, zero, suc, _+_, _-_, _*_, _%_, _^_, _≤_, _<_}
 use native.Mathlib.Nat.{mod-eq-of-lt, pow-suc}
@@ -16,8 +16,8 @@ use Rattle.riscv32imc.specs.Constants.{imageBase}
 use Rattle.lane_word.specs.declared.LaneWord.{LaneWord}
 use Rattle.lane_word.specs.declared.Uniform.{Uniform}
 use Rattle.lane_word.specs.declared.Uniform.the-variants.{Value, Unknown, Uneven}
-use Rattle.lane_word.specs.Word.{constant, binary, zip, every, inputs, uniformOf, firstInput, lanes}
-use Rattle.lane_word.specs.Told.{toldBy, Tells}
+use Rattle.lane_word.specs.Word.{unknown, constant, binary, zip, every, inputs, uniformOf, firstInput, lanes}
+use Rattle.lane_word.specs.Told.{toldBy, isValue, Tells}
 use Rattle.lane_word.proofs.Tab.{length-inputs}
 use Rattle.lane_word.proofs.Told.{binary-constants, uniform-constant}
 use Rattle.predicate_semantics.specs.Choice.{choose}
@@ -28,10 +28,11 @@ use Rattle.predicate_semantics.specs.Lane.{uniform, inside, agreed, access, acc
 use Rattle.predicate_semantics.specs.Standing.{standingCore}
 use Rattle.lane_memory.specs.Rows.{loadByte, toldByte}
 use Rattle.lane_memory.proofs.Laws.{load-below, told-byte}
-use Rattle.lane_access.specs.Seen.{offsetOf, seen, Lies}
-use Rattle.lane_access.specs.declared.Verdict.{Verdict}
-use Rattle.lane_access.specs.declared.Verdict.the-variants as verdict
-use Rattle.lane_access.specs.Answers.{testedAs, loadedAs, decodedAs, expandedAs, fourAs}
+use Rattle.lane_access.specs.Seen.{offsetOf, seen, toldSeen, toldRead, Lies}
+use Rattle.lane_access.specs.declared.Accessed.{Accessed}
+use Rattle.lane_access.specs.declared.Loading.{Loading}
+use Rattle.lane_access.specs.declared.Loading.the-variants as loading
+use Rattle.lane_access.specs.Answers.{refusalOf, testedAs, answerOf, accessedAs, loadingOf, toldLoad, decodedAs, expandedAs, fourAs}
 
 tested : (role v : ℕ) (b c : Bool)
     → choose b (λ _. choose c (λ _. passed v) (λ _. refuse 7 role)) (λ _. refuse 6 role)
@@ -49,11 +50,6 @@ agreed-is role w = tested role (getD (w .values) 0 0) (w .known) (every (getD (w
 pub agreed-constant : (role v : ℕ) → agreed (inputs firstInput lanes) role (constant lanes v) ≡ passed v
 agreed-constant role v = agreed-is role (constant lanes v) ∙ ap (testedAs role) (uniform-constant lanes v (omega arith))
 
--- a byte of the image
-pub seen-image : (image rows : List ℕ) (a : ℕ) → offsetOf a < length image → seen image rows a ≡ constant lanes (getD image (offsetOf a) 0)
-unfolding seen initial
-seen-image image rows a h = rw (lt-ltb _ _ h)
-
 -- the byte by the code's test
 module _ (image rows : List ℕ) (a : ℕ) {b : Bool} (is : b ≡ ltb (offsetOf a) (length image)) where
   pub seen-within : b ≡ true → seen image rows a ≡ constant lanes (initial image a)
@@ -67,31 +63,39 @@ module _ (image rows : List ℕ) (a : ℕ) {b : Bool} (is : b ≡ ltb (offsetOf 
 -- ---- a number joined from its highest byte down
 
 -- what the bytes from one on come to
-abbrev pub rest : LaneBytes → ℕ → ℕ → ℕ → LaneWord
-rest memory n a left = read lanes memory (n - left) (a + left)
+abbrev pub rest : {A : Type 0} → (ℕ → ℕ → A) → ℕ → ℕ → ℕ → A
+rest f n a left = f (n - left) (a + left)
 
-module _ (memory : LaneBytes) (n a : ℕ) where
-  pub rest-none : rest memory n a n ≡ constant lanes 0
-  unfolding read
+module _ {A : Type 0} (f : ℕ → ℕ → A) (n a : ℕ) where
+  pub rest-none : rest f n a n ≡ f 0 (a + n)
   rest-none = let z : n - n ≡ 0 = omega arith in rw z
 
-  pub rest-more : (left : ℕ) → left ≤ n → 0 < left → rest memory n a (left - 1) ≡ binary join (memory (a + (left - 1))) (rest memory n a left)
-  unfolding read
-  rest-more left h k =
+  pub rest-more : (g : ℕ → A → A) → ((k x : ℕ) → f (suc k) x ≡ g x (f k (suc x))) → (left : ℕ) → left ≤ n → 0 < left
+      → rest f n a (left - 1) ≡ g (a + (left - 1)) (rest f n a left)
+  rest-more g step left h k =
       let e : n - (left - 1) ≡ suc (n - left) = omega arith in
-      let f : suc (a + (left - 1)) ≡ a + left = omega arith in
-      rw (e, f)
+      let d : suc (a + (left - 1)) ≡ a + left = omega arith in
+      rw (e, step (n - left) (a + (left - 1)), d)
 
-  pub rest-all : (left : ℕ) → left ≤ 0 → rest memory n a left ≡ read lanes memory n a
+  pub rest-all : (left : ℕ) → left ≤ 0 → rest f n a left ≡ f n a
   rest-all left h =
       let z : left ≡ 0 = omega arith in
       let e : n - 0 ≡ n = omega arith in
-      let f : a + 0 ≡ a = omega arith in
-      rw (z, e, f)
+      let d : a + 0 ≡ a = omega arith in
+      rw (z, e, d)
+
+-- a byte below those above it, in lanes and as told
+pub read-more : (memory : LaneBytes) (k x : ℕ) → read lanes memory (suc k) x ≡ binary join (memory x) (read lanes memory k (suc x))
+unfolding read
+read-more memory k x = refl
+
+pub told-more : (told : ℕ → Uniform) (k x : ℕ) → toldRead told (suc k) x ≡ toldBy join (told x) (toldRead told k (suc x))
+unfolding toldRead
+told-more told k x = refl
 
 -- ---- what one value tells
 
-pub tells-byte : (rows : List ℕ) (a other : ℕ) → Tells (toldByte rows a other) (loadByte rows a other)
+tells-byte : (rows : List ℕ) (a other : ℕ) → Tells (toldByte rows a other) (loadByte rows a other)
 tells-byte rows a other = go (toldByte rows a other) refl
   where
     go : (u : Uniform) → toldByte rows a other ≡ u → Tells u (loadByte rows a other)
@@ -99,12 +103,61 @@ tells-byte rows a other = go (toldByte rows a other) refl
     go Unknown e = tt
     go Uneven e = tt
 
-pub tells-by : (f : ℕ → ℕ → ℕ) (u v : Uniform) (x y : LaneWord) → Tells u x → Tells v y → Tells (toldBy f u v) (binary f x y)
+tells-seen : (image rows : List ℕ) (a : ℕ) → Tells (toldSeen image rows a) (seen image rows a)
+unfolding toldSeen seen
+tells-seen image rows a = go (ltb (offsetOf a) (length image))
+  where
+    go : (b : Bool) → Tells (cond b (Value (initial image a)) (toldByte rows a 0)) (cond b (constant lanes (initial image a)) (loadByte rows a 0))
+    go true = refl
+    go false = tells-byte rows a 0
+
+tells-by : (f : ℕ → ℕ → ℕ) (u v : Uniform) (x y : LaneWord) → Tells u x → Tells v y → Tells (toldBy f u v) (binary f x y)
 tells-by f (Value a) (Value b) x y p q = rw (p, q) (binary-constants f lanes a b)
 tells-by f (Value a) Unknown x y p q = tt
 tells-by f (Value a) Uneven x y p q = tt
 tells-by f Unknown v x y p q = tt
 tells-by f Uneven v x y p q = tt
+
+-- what is told of a number is its word
+pub tells-read : (image rows : List ℕ) (n a : ℕ) → Tells (toldRead (toldSeen image rows) n a) (read lanes (seen image rows) n a)
+unfolding toldRead read
+tells-read image rows zero a = refl
+tells-read image rows (suc n) a =
+    tells-by join (toldSeen image rows a) (toldRead (toldSeen image rows) n (suc a)) (seen image rows a) (read lanes (seen image rows) n (suc a))
+    (tells-seen image rows a) (tells-read image rows n (suc a))
+
+-- a number is told, or left to its lanes
+left-to-lanes : (f : ℕ → ℕ → ℕ) (u v : Uniform) → isValue (toldBy f u v) ≡ false → toldBy f u v ≡ Uneven
+left-to-lanes f (Value a) (Value b) e = absurd (true≢false e)
+left-to-lanes f (Value a) Unknown e = refl
+left-to-lanes f (Value a) Uneven e = refl
+left-to-lanes f Unknown v e = refl
+left-to-lanes f Uneven v e = refl
+
+pub told-uneven : (told : ℕ → Uniform) (n a : ℕ) → isValue (toldRead told n a) ≡ false → toldRead told n a ≡ Uneven
+unfolding toldRead
+told-uneven told zero a e = absurd (true≢false e)
+told-uneven told (suc n) a e = left-to-lanes join (told a) (toldRead told n (suc a)) e
+
+-- bytes above that are not told leave the whole number to its lanes
+untold-above : (f : ℕ → ℕ → ℕ) (u v : Uniform) → isValue v ≡ false → isValue (toldBy f u v) ≡ false
+untold-above f (Value a) (Value b) e = absurd (true≢false e)
+untold-above f (Value a) Unknown e = refl
+untold-above f (Value a) Uneven e = refl
+untold-above f Unknown v e = refl
+untold-above f Uneven v e = refl
+
+module _ (told : ℕ → Uniform) (n a : ℕ) where
+  pub told-step : (left : ℕ) → left ≤ n → 0 < left → {u v w : Uniform} → u ≡ told (a + (left - 1)) → v ≡ rest (toldRead told) n a left → w ≡ toldBy join u v
+      → w ≡ rest (toldRead told) n a (left - 1)
+  told-step left h k e f g = g ∙ ap₂ (toldBy join) e f ∙ sym (rest-more (toldRead told) n a (λ x. toldBy join (told x)) (told-more told) left h k)
+
+  pub told-above : (left : ℕ) → left ≤ n → isValue (rest (toldRead told) n a left) ≡ false → toldRead told n a ≡ Uneven
+  told-above zero h e = told-uneven told n a (rw (rest-all (toldRead told) n a 0 (omega arith)) at e)
+  told-above (suc left) h e =
+      let z : suc left - 1 ≡ left = omega arith in
+      told-above left (omega arith)
+      (rw (← z, ← told-step (suc left) h (omega arith) refl refl refl) (untold-above join (told (a + (suc left - 1))) (rest (toldRead told) n a (suc left)) e))
 
 -- joining stays within a word where the number has at most four bytes
 small : (n : ℕ) → n ≤ 3 → 256 ^ n ≤ 16777216
@@ -119,12 +172,12 @@ join-small x y n hx hy hn =
     let b : 256 ^ n ≤ 16777216 = small n hn in
     mod-eq-of-lt (omega arith)
 
--- a number that lies whole in the image is read as a constant
-pub read-image : (image rows : List ℕ) → AllBytes image → (n a : ℕ) → n ≤ 4 → imageBase ≤ a → offsetOf a + n ≤ length image
-    → read lanes (seen image rows) n a ≡ constant lanes (value (take n (drop (offsetOf a) image)))
-unfolding read
-read-image image rows h zero a k l f = refl
-read-image image rows h (suc n) a k l f =
+-- a number that lies whole in the image is told
+pub told-image : (image rows : List ℕ) → AllBytes image → (n a : ℕ) → n ≤ 4 → imageBase ≤ a → offsetOf a + n ≤ length image
+    → toldRead (toldSeen image rows) n a ≡ Value (value (take n (drop (offsetOf a) image)))
+unfolding toldRead toldSeen initial
+told-image image rows h zero a k l f = refl
+told-image image rows h (suc n) a k l f =
     let o : ℕ = offsetOf a in
     let e : offsetOf (suc a) ≡ suc o = omega arith in
     let rest : List ℕ = take n (drop (suc o) image) in
@@ -132,16 +185,16 @@ read-image image rows h (suc n) a k l f =
     let b : value rest < 256 ^ length rest = value-below rest (below-take n (drop (suc o) image) (below-drop (suc o) image h)) in
     let b' : value rest < 256 ^ n = rw size at b in
     let j : join (getD image o 0) (value rest) ≡ getD image o 0 + 256 * value rest = join-small _ _ n (h o) b' (omega arith) in
-    let ih : read lanes (seen image rows) n (suc a) ≡ constant lanes (value rest)
-    = rw e at (read-image image rows h n (suc a) (omega arith) (omega arith) (omega arith)) in
-    rw (seen-image image rows a (omega arith), ih, binary-constants join lanes _ _, j, drop-cons image o 0 (omega arith))
+    let ih : toldRead (toldSeen image rows) n (suc a) ≡ Value (value rest)
+    = rw e at (told-image image rows h n (suc a) (omega arith) (omega arith) (omega arith)) in
+    rw (lt-ltb o (length image) (omega arith), ih, j, drop-cons image o 0 (omega arith))
 
 -- a number lies there where as many bytes are left from its offset on
 pub lies-left : (image : List ℕ) (a o v n : ℕ) → n ≤ 4 → o ≡ offsetOf a → o < length image → leb n (length image - o) ≡ true → v ≡ value (take n (drop o image)) → Lies v image a n
 lies-left image a o v n k e h b is = record { small = k; inside = omega (arith, e, h, leb-true n (length image - o) b); is = rw (← e) is }
 
-pub lies-read : (image rows : List ℕ) → AllBytes image → (v n a : ℕ) → imageBase ≤ a → Lies v image a n → read lanes (seen image rows) n a ≡ constant lanes v
-lies-read image rows h v n a l f = rw (f .is) (read-image image rows h n a (f .small) l (f .inside))
+pub lies-told : (image rows : List ℕ) → AllBytes image → (v n a : ℕ) → imageBase ≤ a → Lies v image a n → Value v ≡ toldRead (toldSeen image rows) n a
+lies-told image rows h v n a l f = ap Value (f .is) ∙ sym (told-image image rows h n a (f .small) l (f .inside))
 
 -- ---- a load after its range, and what its lanes agree on
 
@@ -157,11 +210,6 @@ inside-fits a n h = go (leb imageBase a) (leb (a + n) memoryEnd) refl refl h
     go true false p q h = absurd (clash (cc))
     go false c p q h = absurd (clash (cc))
 
--- the word of a load that passed
-pub accessed-word : (v : Verdict) (x w : LaneWord) → loadedAs v x ≡ passed w → x ≡ w
-accessed-word verdict.Passed x w e = cc
-accessed-word (verdict.Refused r) x w e = absurd (clash (cc))
-
 module _ (memory : LaneBytes) (n a : ℕ) where
   pub access-inside : inside a n ≡ passed tt → access (inputs firstInput lanes) memory n a ≡ passed (read lanes memory n a)
   unfolding access _>>=_
@@ -171,6 +219,17 @@ module _ (memory : LaneBytes) (n a : ℕ) where
   unfolding access _>>=_
   access-outside r h = rw h
 
+  -- the answer to a load, both ways
+  pub answer-passed : {w : LaneWord} → inside a n ≡ passed tt → w ≡ read lanes memory n a → (passed tt, w) ≡ accessedAs (access (inputs firstInput lanes) memory n a)
+  answer-passed h e = sym (ap accessedAs (access-inside h ∙ ap passed (sym e)))
+
+  pub answer-refused : {w : LaneWord} (r : Refusal) → inside a n ≡ refused r → w ≡ unknown lanes → (refused r, w) ≡ accessedAs (access (inputs firstInput lanes) memory n a)
+  answer-refused r h e = rw (e, access-outside r h)
+
+  -- the word of a load that passed
+  pub accessed-word : (r : Accessed) → answerOf r ≡ accessedAs (access (inputs firstInput lanes) memory n a) → inside a n ≡ passed tt → r .word ≡ read lanes memory n a
+  accessed-word r e h = ap (λ (x : Tested (Unit {0}) × LaneWord). x .1) (e ∙ ap accessedAs (access-inside h))
+
   module _ (role : ℕ) where
     pub agreed-inside : inside a n ≡ passed tt → accessAgreed (inputs firstInput lanes) role memory n a ≡ agreed (inputs firstInput lanes) role (read lanes memory n a)
     unfolding accessAgreed _>>=_
@@ -179,6 +238,25 @@ module _ (memory : LaneBytes) (n a : ℕ) where
     pub agreed-outside : (r : Refusal) → inside a n ≡ refused r → accessAgreed (inputs firstInput lanes) role memory n a ≡ refused r
     unfolding accessAgreed _>>=_
     agreed-outside r h = rw (access-outside r h)
+
+-- what the answer to a load says: its range, and of one value that it is the load's word
+abbrev pub LoadsAs : LaneBytes → ℕ → ℕ → Loading → Type 0
+LoadsAs memory n a (loading.Value v) = (inside a n ≡ passed tt) × (read lanes memory n a ≡ constant lanes v)
+LoadsAs memory n a loading.Lanes = inside a n ≡ passed tt
+LoadsAs memory n a (loading.Refused e) = inside a n ≡ refused (refusalOf e)
+
+pub loads : (image rows : List ℕ) (n a : ℕ) (r : Loading) → loadingOf r ≡ toldLoad image rows n a → LoadsAs (seen image rows) n a r
+unfolding toldLoad _>>=_
+loads image rows n a r e = go r (inside a n) refl e
+  where
+    go : (r : Loading) (t : Tested (Unit {0})) → inside a n ≡ t → loadingOf r ≡ (t >>= λ _. passed (toldRead (toldSeen image rows) n a)) → LoadsAs (seen image rows) n a r
+    go (loading.Value v) (passed u) p e =
+        let q : toldRead (toldSeen image rows) n a ≡ Value v = cc in (p, rw q at (tells-read image rows n a))
+    go (loading.Value v) (refused x) p e = absurd (clash (cc))
+    go loading.Lanes (passed u) p e = p
+    go loading.Lanes (refused x) p e = absurd (clash (cc))
+    go (loading.Refused r) (passed u) p e = absurd (clash (cc))
+    go (loading.Refused r) (refused x) p e = let q : x ≡ refusalOf r = cc in p ∙ ap refused q
 
 -- ---- two bytes are below 65536
 

@@ -1,15 +1,16 @@
 -- Document 01's number and role for each refusal of the code, and what the code's answers are in the semantics.
-use mathlib.Core.Path.{_≡_}
+use mathlib.Core.List.{List}
 use Prim.Native.Nat.{ℕ}
 use Rattle.riscv_decode.specs.declared.Fetched.{Fetched}
 use Rattle.lane_word.specs.declared.LaneWord.{LaneWord}
 use Rattle.lane_word.specs.declared.Uniform.{Uniform}
 use Rattle.lane_word.specs.declared.Uniform.the-variants.{Value, Unknown, Uneven}
-use Rattle.lane_word.specs.Word.{constant, inputs, firstInput, lanes}
+use Rattle.lane_word.specs.Word.{unknown, inputs, firstInput, lanes}
 use Rattle.predicate_semantics.specs.Refusal.{Refusal, Tested, passed, refused, refuse, _>>=_, found}
-use Rattle.predicate_semantics.specs.Memory.{LaneBytes, read}
+use Rattle.predicate_semantics.specs.Memory.{LaneBytes}
 use Rattle.predicate_semantics.specs.Lane.{inside, accessAgreed}
 use Rattle.predicate_semantics.specs.Standing.{standingCore}
+use Rattle.lane_access.specs.Seen.{toldSeen, toldRead}
 use Rattle.lane_access.specs.declared.Role.{Role}
 use Rattle.lane_access.specs.declared.Role.the-variants as role
 use Rattle.lane_access.specs.declared.Rv32Error.{Rv32Error}
@@ -68,19 +69,26 @@ testedAs r (Value v) = passed v
 testedAs r Unknown = refuse 6 r
 testedAs r Uneven = refuse 7 r
 
--- a load's word stands beside its verdict
-abbrev pub loadedAs : Verdict → LaneWord → Tested LaneWord
-loadedAs verdict.Passed w = passed w
-loadedAs (verdict.Refused e) w = refused (refusalOf e)
+-- the whole answer to a load: its verdict, and its word beside it
+abbrev pub answerOf : Accessed → Tested (Unit {0}) × LaneWord
+answerOf a = (verdictOf (a .verdict), a .word)
 
-abbrev pub accessedOf : Accessed → Tested LaneWord
-accessedOf a = loadedAs (a .verdict) (a .word)
+-- a load's answer; where it is refused its word is unknown
+abbrev pub accessedAs : Tested LaneWord → Tested (Unit {0}) × LaneWord
+accessedAs (passed w) = (passed tt, w)
+accessedAs (refused r) = (refused r, unknown lanes)
 
--- a load that has passed its range is one value in every lane, or lanes; else its refusal
-abbrev pub LoadsAs : LaneBytes → ℕ → ℕ → Loading → Type 0
-LoadsAs memory n a (loading.Value v) = (inside a n ≡ passed tt) × (read lanes memory n a ≡ constant lanes v)
-LoadsAs memory n a loading.Lanes = inside a n ≡ passed tt
-LoadsAs memory n a (loading.Refused e) = inside a n ≡ refused (refusalOf e)
+-- a load that one value tells, or one whose lanes have to be read
+abbrev pub loadingOf : Loading → Tested Uniform
+loadingOf (loading.Value v) = passed (Value v)
+loadingOf loading.Lanes = passed Uneven
+loadingOf (loading.Refused e) = refused (refusalOf e)
+
+-- a load: range, then the value that tells its bytes where each of them is told
+unfoldable pub toldLoad : List ℕ → List ℕ → ℕ → ℕ → Tested Uniform
+toldLoad image rows n a = do
+  _ ← inside a n
+  passed (toldRead (toldSeen image rows) n a)
 
 abbrev pub fetchingOf : Fetching → Tested Fetched
 fetchingOf (fetching.Got f) = passed f

@@ -6,14 +6,13 @@ ghost use lib.Dec.{ltb};
 ghost use lib.ListN.{length};
 ghost use Rattle.riscv32imc.specs.Constants.{imageBase};
 ghost use Rattle.lane_word.specs.Word.{inputs, firstInput, lanes};
-ghost use Rattle.lane_word.specs.Told.{Tells};
 ghost use Rattle.predicate_semantics.specs.Program.{initial};
 ghost use Rattle.predicate_semantics.specs.Memory.{read};
 ghost use Rattle.predicate_semantics.specs.Lane.{agreed, inside, access, accessAgreed, fetch};
 ghost use Rattle.predicate_semantics.specs.Standing.{standingCore};
 ghost use Rattle.lane_memory.specs.Rows.{Joined};
-ghost use Rattle.lane_access.specs.Seen.{offsetOf, seen, FromImage};
-ghost use Rattle.lane_access.specs.Answers.{roleOf, verdictOf, agreedOf, testedAs, accessedOf, LoadsAs, fetchingOf, decodedAs, expandedAs, fourAs};
+ghost use Rattle.lane_access.specs.Seen.{offsetOf, seen, toldSeen, toldRead, FromImage};
+ghost use Rattle.lane_access.specs.Answers.{roleOf, verdictOf, agreedOf, testedAs, answerOf, accessedAs, loadingOf, toldLoad, fetchingOf, decodedAs, expandedAs, fourAs};
 use lane_word::LaneWord;
 use lane_word::Uniform;
 use riscv_decode::Decoded;
@@ -175,7 +174,7 @@ fn join_bytes(image: &[u8], rows: &[u8], address: u32, width: u32) -> LaneWord
 
 // What one value tells of the byte at an address.
 fn told_at(image: &[u8], rows: &[u8], address: u32) -> Uniform
-    ensures { λ r. ⌜ Tells r (seen (now (image .entry)) (now (rows .entry)) address) ⌝ }
+    ensures { λ r. ⌜ r ≡ toldSeen (now (image .entry)) (now (rows .entry)) address ⌝ }
 {
     if in_image(image, address) {
         return Uniform::Value(image_byte(image, address));
@@ -186,7 +185,7 @@ fn told_at(image: &[u8], rows: &[u8], address: u32) -> Uniform
 // What the bytes' values tell, joined as the bytes are; one byte without a value leaves the number to its lanes.
 fn told_join(image: &[u8], rows: &[u8], address: u32, width: u32) -> Uniform
     requires { ⌜ address + width ≤ 2 ^ 32 ⌝ }
-    ensures { λ r. ⌜ Tells r (read lanes (seen (now (image .entry)) (now (rows .entry))) width address) ⌝ }
+    ensures { λ r. ⌜ r ≡ toldRead (toldSeen (now (image .entry)) (now (rows .entry))) width address ⌝ }
 {
     let mut told = Uniform::Value(0);
     let mut left = width;
@@ -226,7 +225,7 @@ fn image_number(image: &[u8], address: u32, width: u32) -> ImageNumber
 // What one value tells of the bytes from an address on.
 fn told_bytes(image: &[u8], rows: &[u8], address: u32, width: u32) -> Uniform
     requires { ⌜ (imageBase ≤ address) × (address + width ≤ 2 ^ 32) ⌝ }
-    ensures { λ r. ⌜ Tells r (read lanes (seen (now (image .entry)) (now (rows .entry))) width address) ⌝ }
+    ensures { λ r. ⌜ r ≡ toldRead (toldSeen (now (image .entry)) (now (rows .entry))) width address ⌝ }
 {
     let number = image_number(image, address, width);
     match number {
@@ -237,22 +236,23 @@ fn told_bytes(image: &[u8], rows: &[u8], address: u32, width: u32) -> Uniform
 
 // A load: range, then what one value tells.
 pub fn load(image: &[u8], rows: &[u8], address: u32, width: u32) -> Loading
-    ensures { λ r. ⌜ LoadsAs (seen (now (image .entry)) (now (rows .entry))) width address r ⌝ }
+    ensures { λ r. ⌜ loadingOf r ≡ toldLoad (now (image .entry)) (now (rows .entry)) width address ⌝ }
 {
     let range = range_of(address, width);
     if let Verdict::Refused(error) = range {
         return Loading::Refused(error);
     }
     let told = told_bytes(image, rows, address, width);
-    if let Uniform::Value(value) = told {
-        return Loading::Value(value);
+    match told {
+        Uniform::Value(value) => Loading::Value(value),
+        Uniform::Unknown => Loading::Lanes,
+        Uniform::Uneven => Loading::Lanes,
     }
-    Loading::Lanes
 }
 
 // A load lane by lane: range, then the bytes.
 pub fn access(image: &[u8], rows: &[u8], address: u32, width: u32) -> Accessed
-    ensures { λ r. ⌜ accessedOf r ≡ access (inputs firstInput lanes) (seen (now (image .entry)) (now (rows .entry))) width address ⌝ }
+    ensures { λ r. ⌜ answerOf r ≡ accessedAs (access (inputs firstInput lanes) (seen (now (image .entry)) (now (rows .entry))) width address) ⌝ }
 {
     let range = range_of(address, width);
     if let Verdict::Refused(error) = range {

@@ -2,10 +2,9 @@ use mathlib.Core.Path.{sym, ap, _∙_}
 use native.Mathlib.Omega.{arith}
 use borrow.Author.Needs.{needs}
 use denote.Ref.{now}
-use Rattle.predicate_semantics.specs.Refusal.{passed}
 use Rattle.lane_access.specs.Seen.{seen}
 use Rattle.lane_access.specs.Answers.{verdictOf}
-use Rattle.lane_access.proofs.Loads.{inside-fits, access-inside, access-outside}
+use Rattle.lane_access.proofs.Loads.{inside-fits, answer-passed, answer-refused}
 use Rattle.lane_access.proofs.access.Statement.{statement}
 use Rattle.lane_access.proofs.access.Tie as tie
 
@@ -19,7 +18,7 @@ access-spec =
     (λ c.
     let r = c .before .before .before .before in
     let a = r .before .before .before .args in
-    sym (access-outside (seen (now (a .image)) (now (a .rows))) (a .width) (a .address) _ (sym (r .range-of .ensures) ∙ ap verdictOf (c .before .before .range .given .1))))
+    answer-refused (seen (now (a .image)) (now (a .rows))) (a .width) (a .address) _ (sym (r .range-of .ensures) ∙ ap verdictOf (c .before .before .range .given .1)) (search needs))
     (λ c. search needs)
     (λ c κs.
     let r = c .before .before in
@@ -30,5 +29,4 @@ access-spec =
     let t = c .before in
     let r = t .before .before in
     let a = r .before .before .before .args in
-    ap passed (c .join-bytes .ensures)
-    ∙ sym (access-inside (seen (now (a .image)) (now (a .rows))) (a .width) (a .address) (sym (r .range-of .ensures) ∙ ap verdictOf (t .enum-told .given .1)))))
+    answer-passed (seen (now (a .image)) (now (a .rows))) (a .width) (a .address) (sym (r .range-of .ensures) ∙ ap verdictOf (t .enum-told .given .1)) (c .join-bytes .ensures)))

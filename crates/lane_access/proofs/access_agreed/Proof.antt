@@ -5,7 +5,7 @@ use Rattle.lane_word.specs.Word.{inputs, firstInput, lanes}
 use Rattle.predicate_semantics.specs.Lane.{agreed}
 use Rattle.lane_access.specs.Seen.{seen}
 use Rattle.lane_access.specs.Answers.{roleOf}
-use Rattle.lane_access.proofs.Loads.{agreed-constant, access-inside, accessed-word, agreed-inside, agreed-outside}
+use Rattle.lane_access.proofs.Loads.{loads, agreed-constant, accessed-word, agreed-inside, agreed-outside}
 use Rattle.lane_access.proofs.access_agreed.Statement.{statement}
 use Rattle.lane_access.proofs.access_agreed.Tie as tie
 
@@ -22,20 +22,20 @@ access-agreed-spec =
     (λ c.
     let k = c .before .before .before in
     let a = k .before .before .before .args in
-    let h = rw (c .before .loading .given .1) at (k .load .ensures) in
+    let h = rw (c .before .loading .given .1) at (loads _ _ _ _ (k .load .result) (k .load .ensures)) in
     sym (agreed-inside (seen (now (a .image)) (now (a .rows))) (a .width) (a .address) (roleOf (a .role)) (h .0)
     ∙ ap (agreed (inputs firstInput lanes) (roleOf (a .role))) (h .1) ∙ agreed-constant (roleOf (a .role)) _))
     (λ c.
     let k = c .before .before .before in
     let a = k .before .before .before .args in
-    sym (agreed-outside (seen (now (a .image)) (now (a .rows))) (a .width) (a .address) (roleOf (a .role)) _ (rw (c .before .loading2 .given .1) at (k .load .ensures))))
+    sym (agreed-outside (seen (now (a .image)) (now (a .rows))) (a .width) (a .address) (roleOf (a .role)) _ (rw (c .before .loading2 .given .1) at (loads _ _ _ _ (k .load .result) (k .load .ensures)))))
     (λ c.
     let x = c .before in
     let t = x .before in
     let k = t .before .before in
     let a = k .before .before .before .args in
-    let i = rw (t .enum-told .given .1) at (k .load .ensures) in
+    let i = rw (t .enum-told .given .1) at (loads _ _ _ _ (k .load .result) (k .load .ensures)) in
     c .agree .ensures
     ∙ ap (agreed (inputs firstInput lanes) (roleOf (a .role)))
-    (accessed-word (x .access .result .verdict) _ _ (x .access .ensures ∙ access-inside (seen (now (a .image)) (now (a .rows))) (a .width) (a .address) i))
+    (accessed-word (seen (now (a .image)) (now (a .rows))) (a .width) (a .address) (x .access .result) (x .access .ensures) i)
     ∙ sym (agreed-inside (seen (now (a .image)) (now (a .rows))) (a .width) (a .address) (roleOf (a .role)) i)))

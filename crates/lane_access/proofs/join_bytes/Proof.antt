@@ -7,18 +7,19 @@ use denote.Ref.{now}
 use lib.ListN.{length}
 use Rattle.riscv32imc.specs.Bits.{join}
 use Rattle.lane_word.specs.Word.{constant, binary, lanes}
+use Rattle.predicate_semantics.specs.Memory.{read}
 use Rattle.lane_memory.proofs.Laws.{joined-word}
 use Rattle.lane_access.specs.Seen.{seen}
-use Rattle.lane_access.proofs.Loads.{rest, rest-none, rest-more, rest-all}
+use Rattle.lane_access.proofs.Loads.{rest, rest-none, rest-more, rest-all, read-more}
 use Rattle.lane_access.proofs.join_bytes.Statement.{statement}
 use Rattle.lane_access.proofs.join_bytes.Tie as tie
 
 abbrev I : tie.InvT-loop
 I image rows address width values₀ known₀ left₀ values known left =
-    (left ≤ width) × (length values ≡ lanes) × (record { values = values; known = known } ≡ rest (seen image rows) width address left)
+    (left ≤ width) × (length values ≡ lanes) × (record { values = values; known = known } ≡ rest (read lanes (seen image rows)) width address left)
 
 pub join-bytes-spec : {M : Type 1} → statement M
-unfolding constant
+unfolding constant read
 join-bytes-spec =
     tie.close
     (tie.spec
@@ -26,7 +27,7 @@ join-bytes-spec =
     (λ image rows address width values₀ known₀ left₀ values known left. left)
     (λ c.
     let a = c .before .before .args in
-    (omega arith, search needs, sym (rest-none (seen (now (a .image)) (now (a .rows))) (a .width) (a .address))))
+    (omega arith, search needs, sym (rest-none (read lanes (seen (now (a .image)) (now (a .rows)))) (a .width) (a .address))))
     (λ c. search needs)
     (λ c. search needs)
     (λ c. search needs)
@@ -43,9 +44,9 @@ join-bytes-spec =
       search needs,
       joined-word (m (a .address + (l .left - 1))) (l .values) (l .known) (l .inv .1) (j .join-at .ensures) (c .both .ensures)
           ∙ ap (binary join (m (a .address + (l .left - 1)))) (l .inv .2)
-          ∙ sym (rest-more m (a .width) (a .address) (l .left) (l .inv .0) (t .loop-test .taken)),
+          ∙ sym (rest-more (read lanes m) (a .width) (a .address) (λ x. binary join (m x)) (read-more m) (l .left) (l .inv .0) (t .loop-test .taken)),
     ))
     (λ c.
     let l = c .before .loop in
     let a = c .before .before .before .before .args in
-    l .inv .2 ∙ rest-all (seen (now (a .image)) (now (a .rows))) (a .width) (a .address) (l .left) (c .loop-test .left)))
+    l .inv .2 ∙ rest-all (read lanes (seen (now (a .image)) (now (a .rows)))) (a .width) (a .address) (l .left) (c .loop-test .left)))

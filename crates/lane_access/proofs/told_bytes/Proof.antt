@@ -1,7 +1,7 @@
 use native.Mathlib.Omega.{arith}
 use borrow.Author.Needs.{needs}
 use denote.Ref.{now}
-use Rattle.lane_access.proofs.Loads.{lies-read}
+use Rattle.lane_access.proofs.Loads.{lies-told}
 use Rattle.lane_access.proofs.told_bytes.Statement.{statement}
 use Rattle.lane_access.proofs.told_bytes.Tie as tie
 
@@ -18,5 +18,5 @@ told-bytes-spec =
     let k = n .before .before in
     let s = k .before .before .before in
     let a = s .args in
-    lies-read (now (a .image)) (now (a .rows)) (λ j. omega (arith, k .before .before .shared-slice-known .given j)) _ (a .width) (a .address) (s .pre .0) (rw (n .number .given .1) at (k .image-number .ensures)))
+    lies-told (now (a .image)) (now (a .rows)) (λ j. omega (arith, k .before .before .shared-slice-known .given j)) _ (a .width) (a .address) (s .pre .0) (rw (n .number .given .1) at (k .image-number .ensures)))
     (λ c. search needs))

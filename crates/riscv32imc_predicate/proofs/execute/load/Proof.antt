@@ -5,7 +5,7 @@ use Rattle.lane_word.specs.Word.{lanes}
 use Rattle.lane_word.proofs.Told.{unary-constant}
 use Rattle.predicate_semantics.specs.Refusal.{_>>=_}
 use Rattle.lane_access.specs.Seen.{seen}
-use Rattle.lane_access.proofs.Laws.{access-inside, access-outside}
+use Rattle.lane_access.proofs.Laws.{access-inside, access-outside, loads}
 use Rattle.predicate_action.specs.Action.{extensionOf}
 use Rattle.riscv32imc_predicate.proofs.execute.load.Statement.{statement}
 use Rattle.riscv32imc_predicate.proofs.execute.load.Tie as tie
@@ -30,7 +30,7 @@ load-spec =
           let v = d .before .before in
           let k = v .before .before in
           let a = k .before .before .before .args in
-          let h = rw (l .loading .given .1) at (d .load .ensures) in
+          let h = rw (l .loading .given .1) at (loads _ _ _ _ (d .load .result) (d .load .ensures)) in
           rw (
             ← (k .agreed-in .ensures),
             v .agreed .given .1,
@@ -50,9 +50,9 @@ load-spec =
           rw (
             ← (k .agreed-in .ensures),
             v .agreed .given .1,
-            access-inside (seen (now (a .image)) (now (a .rows))) (a .width) (v .agreed .given .0 .0) (rw (c .enum-told .given .1) at (d .load .ensures)),
+            access-inside (seen (now (a .image)) (now (a .rows))) (a .width) (v .agreed .given .0 .0) (rw (c .enum-told .given .1) at (loads _ _ _ _ (d .load .result) (d .load .ensures))),
           ),
-      rw (c .enum-told .given .1) at (c .before .before .load .ensures),
+      let d = c .before .before in rw (c .enum-told .given .1) at (loads _ _ _ _ (d .load .result) (d .load .ensures)),
     ))
     (λ c. (
       λ w r.
@@ -64,7 +64,7 @@ load-spec =
           rw (
             ← (k .agreed-in .ensures),
             v .agreed .given .1,
-            access-outside (seen (now (a .image)) (now (a .rows))) (a .width) (v .agreed .given .0 .0) _ (rw (l .loading2 .given .1) at (d .load .ensures)),
+            access-outside (seen (now (a .image)) (now (a .rows))) (a .width) (v .agreed .given .0 .0) _ (rw (l .loading2 .given .1) at (loads _ _ _ _ (d .load .result) (d .load .ensures))),
           ),
       tt,
     ))

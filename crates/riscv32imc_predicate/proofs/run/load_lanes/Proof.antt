@@ -3,7 +3,7 @@ use borrow.Author.Needs.{needs}
 use denote.Ref.{now}
 use Rattle.lane_word.specs.Word.{unary}
 use Rattle.lane_access.specs.Seen.{seen}
-use Rattle.lane_access.proofs.Laws.{access-inside, accessed-word}
+use Rattle.lane_access.proofs.Laws.{accessed-word}
 use Rattle.predicate_action.specs.Action.{extensionOf}
 use Rattle.riscv32imc_predicate.proofs.run.load_lanes.Statement.{statement}
 use Rattle.riscv32imc_predicate.proofs.run.load_lanes.Tie as tie
@@ -21,5 +21,5 @@ load-lanes-spec =
       size = c .extend .ensures .1;
       is = λ i. c .extend .ensures .0
           ∙ ap (unary (extensionOf (a .extension)))
-          (accessed-word (x .access .result .verdict) _ _ (x .access .ensures ∙ access-inside (seen (now (a .image)) (now (a .rows))) (a .width) (a .address) i));
+          (accessed-word (seen (now (a .image)) (now (a .rows))) (a .width) (a .address) (x .access .result) (x .access .ensures) i);
     }))
