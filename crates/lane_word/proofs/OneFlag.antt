@@ -5,20 +5,22 @@ use mathlib.Core.Path.{_≡_, refl, ap, ap₂, _∙_}
 use Prim.Native.Nat.{ℕ, zero, suc, _<_}
 use native.Mathlib.Omega.{arith}
 use lib.ListN.{replicate}
-use Rattle.lane_word.specs.Flags.{Flags, unset, given, cloned, zipped, zipFlags, allKnown, flagOf}
+use Rattle.lane_word.specs.Flags.{Flags, unset, given, cloned, zipped, zipFlags, allKnown, flagOf, FlagsAgree, OneFlag}
 
 zip-replicate : (n : ℕ) (a b : Bool) → zipFlags (replicate n a) (replicate n b) ≡ replicate n (a && b)
 unfolding zipFlags
 zip-replicate zero a b = refl
 zip-replicate (suc n) a b = ap (λ (l : List Bool). (a && b) ∷ l) (zip-replicate n a b)
 
--- every flag is the one that `LaneWord` keeps
-pub flags-agree : {n : ℕ} {ls : List Bool} (f : Flags n ls) → ls ≡ replicate n (flagOf f)
+agree : {n : ℕ} {ls : List Bool} (f : Flags n ls) → ls ≡ replicate n (flagOf f)
 unfolding flagOf
-flags-agree unset = refl
-flags-agree given = refl
-flags-agree (cloned f) = flags-agree f
-flags-agree {n} (zipped f g) = ap₂ zipFlags (flags-agree f) (flags-agree g) ∙ zip-replicate n (flagOf f) (flagOf g)
+agree unset = refl
+agree given = refl
+agree (cloned f) = agree f
+agree {n} (zipped f g) = ap₂ zipFlags (agree f) (agree g) ∙ zip-replicate n (flagOf f) (flagOf g)
+
+pub flags-agree : FlagsAgree
+flags-agree n ls f = agree f
 
 all-replicate : (n : ℕ) (a : Bool) → allKnown (replicate (suc n) a) ≡ a
 unfolding allKnown
@@ -26,7 +28,6 @@ all-replicate n false = refl
 all-replicate zero true = refl
 all-replicate (suc n) true = all-replicate n true
 
--- the Rust's test of all flags is a test of that one
-pub one-flag : {n : ℕ} {ls : List Bool} → 0 < n → (f : Flags n ls) → allKnown ls ≡ flagOf f
-one-flag {n = zero} h f = absurd (omega arith)
-one-flag {n = suc n} h f = ap allKnown (flags-agree f) ∙ all-replicate n (flagOf f)
+pub one-flag : OneFlag
+one-flag zero ls h f = absurd (omega arith)
+one-flag (suc n) ls h f = ap allKnown (agree f) ∙ all-replicate n (flagOf f)

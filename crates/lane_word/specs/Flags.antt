@@ -1,7 +1,9 @@
--- The flags of the Rust, one for each lane (riscv32imc_predicate.rs): what each way to begin a word and each operation makes of them.
+-- The flags of the Rust, one for each lane (riscv32imc_predicate.rs): what each way to begin a word and each operation makes of them, and that
+-- they agree (document 01, "Lane word"). The proofs stand in proofs/OneFlag.
 use mathlib.Core.Bool.{Bool, true, false, _&&_}
 use mathlib.Core.List.{List, [], _∷_}
-use Prim.Native.Nat.{ℕ}
+use mathlib.Core.Path.{_≡_}
+use Prim.Native.Nat.{ℕ, _<_}
 use lib.ListN.{replicate}
 
 -- lane by lane, left && right
@@ -32,3 +34,11 @@ flagOf unset = false
 flagOf given = true
 flagOf (cloned f) = flagOf f
 flagOf (zipped f g) = flagOf f && flagOf g
+
+-- all flags of one word agree: each of them is the one that `LaneWord` keeps
+abbrev pub FlagsAgree : Type 0
+FlagsAgree = (n : ℕ) (ls : List Bool) (f : Flags n ls) → ls ≡ replicate n (flagOf f)
+
+-- so the Rust's test of all flags is the test of that one
+abbrev pub OneFlag : Type 0
+OneFlag = (n : ℕ) (ls : List Bool) → 0 < n → (f : Flags n ls) → allKnown ls ≡ flagOf f
