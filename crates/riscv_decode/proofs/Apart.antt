@@ -13,8 +13,9 @@ use lib.Ieee.Fits.{and-l, and-r}
 use lib.ListN.{length, getD}
 use mir.Facts.{yes-eqb}
 use Rattle.riscv_decode.specs.declared.Row.{Row}
-use Rattle.riscv_decode.specs.Listing.{listing, fixed}
+use Rattle.riscv_decode.specs.Listing.{operationCount, listing, fixed}
 use Rattle.riscv_decode.specs.Rows.{rowMask, rowMatch, rowNumber, noRow, matches, findRow, apart, apartFrom, allApart, maskOf, matchOf, rowsFrom, standing, Stands}
+use Rattle.riscv_decode.specs.Statements.{StandingApart, OneRow}
 
 and-odd : (a b : ℕ) → bitAnd a b % 2 ≡ min (a % 2) (b % 2)
 and-odd a b = ap (λ (x : ℕ). x % 2) (and-step a b) ∙ digits-mod (bitAnd (a / 2) (b / 2)) (omega arith)
@@ -44,7 +45,7 @@ not-both r s w t p q =
     ∙ ap (bitAnd w) (and-comm (rowMask r) (rowMask s))
     ∙ sym (masked w (rowMask s) (rowMask r) (eqb→eq (bitAnd w (rowMask s)) (rowMatch s) q))))
 
-from : (r : Row) (rs : List Row) → T (apartFrom r rs) → (k : ℕ) → k < length rs → T (apart r (getD rs k noRow))
+pub from : (r : Row) (rs : List Row) → T (apartFrom r rs) → (k : ℕ) → k < length rs → T (apart r (getD rs k noRow))
 unfolding apartFrom
 from r [] t k h = absurd (not-suc-le-zero h)
 from r (s ∷ rs) t zero h = and-l (apart r s) (apartFrom r rs) t
@@ -78,15 +79,17 @@ beside r (s ∷ rs) w t p =
     let n : bitAnd w (rowMask s) ≡ rowMatch s → ⊥ = λ e. not-both r s w (and-l (apart r s) (apartFrom r rs) t) p (yes-eqb e) in
     rw (ne-eqb _ _ n) (beside r rs w (and-r (apart r s) (apartFrom r rs) t) p)
 
--- the standing table passes
-pub standing-apart : T (allApart standing)
+pub standing-apart : StandingApart
 unfolding allApart apartFrom standing rowsFrom listing fixed maskOf matchOf
 standing-apart = tt
 
+pub standing-one : OneRow
+standing-one = one-row standing standing-apart
+
 -- row i stands
-pub stands : (i : ℕ) → T (ltb i 44) → Stands (getD standing i noRow)
+pub stands : (i : ℕ) → T (ltb i operationCount) → Stands (getD standing i noRow)
 unfolding standing rowsFrom listing
-stands i t = (i, ltb→lt i 44 t, refl)
+stands i t = (i, ltb→lt i operationCount t, refl)
 
 -- a word that matches a row that stands is found by that row's number
 pub by-row : (r : Row) (w : ℕ) → Stands r → matches r w ≡ true → rowNumber r ≡ findRow standing w

@@ -10,16 +10,16 @@ use lib.Dec.{T, eqb, eqb→eq}
 use lib.Ieee.Fits.{and-l, and-r}
 use lib.ListN.{length, getD, length-append}
 use lib.Seq.{getD-append-seam}
-use Rattle.riscv_decode.specs.Listing.{Line, NoOperands, Fixed, Opcode, listing, operation, fixed, has, refused}
+use Rattle.riscv_decode.specs.Listing.{Line, noLine, Fixed, Opcode, listing, operation, fixed, has, refused}
 use Rattle.riscv_decode.specs.Rows.{rowNumber, noRow, matches, findRow, apartFrom, maskOf, matchOf, rowsFrom, standing}
 use Rattle.riscv_decode.specs.Decode.{operationOf, decodeWith, decodeOf, decodeListed}
 use Rattle.riscv_decode.specs.Operations.{numberOf}
+use Rattle.riscv_decode.specs.Statements.{FortyFour, RowsListed, DecodeListed, LinesAccepted, NamedRefused, Numbered}
 use Rattle.riscv_decode.specs.declared.Row.{Row}
 use Rattle.riscv_decode.specs.declared.Operation.{Operation}
-use Rattle.riscv_decode.specs.declared.Operation.the-variants.{Fence}
 use Rattle.riscv_decode.specs.declared.Decoded.{Decoded}
 use Rattle.riscv_decode.specs.declared.Decoded.the-variants.{Known, Refused}
-use Rattle.riscv_decode.proofs.Apart.{found, beside, standing-apart}
+use Rattle.riscv_decode.proofs.Apart.{not-both, from, found, beside, standing-apart}
 use Rattle.riscv_decode.proofs.Fields.{fits, fields}
 
 allFit : List Line → Bool
@@ -44,42 +44,39 @@ by-line ps (l ∷ ls) w t =
     (choice (has (fixed l) w) ps (known w l) (map (known w) ls) (findRow (rowsFrom (suc (suc (length ps))) ls) w) (decodeListed ls w)
     (rw (append-assoc, length-append, add-one) at (by-line (ps ++ known w l ∷ []) ls w (and-r (fits (fixed l)) (allFit ls) t))))
 
--- decoding by the rows is decoding by the listing
-pub decode-listed : (w : ℕ) → decodeOf w ≡ decodeListed listing w
+-- the rows and the lines
+pub forty-four : FortyFour
+unfolding standing rowsFrom listing
+forty-four = (refl, refl)
+
+pub decode-listed : DecodeListed
 unfolding decodeOf decodeWith operationOf standing listing fixed allFit
 decode-listed w = by-line [] listing w tt
 
--- what stands past the listing's end
-abbrev pub no-line : Line
-no-line = NoOperands 0 0 Fence
-
--- the row of line i: its number, and a word with the line's fields matches it
-row-of : (n : ℕ) (ls : List Line) (i w : ℕ) → T (allFit ls) → i < length ls → T (has (fixed (getD ls i no-line)) w) → T (matches (getD (rowsFrom n ls) i noRow) w) × (rowNumber (getD (rowsFrom n ls) i noRow) ≡ n + i)
+row-of : (n : ℕ) (ls : List Line) (i w : ℕ) → T (allFit ls) → i < length ls
+    → (matches (getD (rowsFrom n ls) i noRow) w ≡ has (fixed (getD ls i noLine)) w) × (rowNumber (getD (rowsFrom n ls) i noRow) ≡ n + i)
 unfolding rowsFrom allFit
-row-of n [] i w t h p = absurd (not-suc-le-zero h)
-row-of n (l ∷ ls) zero w t h p =
-    (subst T (sym (fields (fixed l) w (and-l (fits (fixed l)) (allFit ls) t))) p, sym (add-zero n))
-row-of n (l ∷ ls) (suc i) w t h p =
-    let q = row-of (suc n) ls i w (and-r (fits (fixed l)) (allFit ls) t) (le-of-suc-le-suc h) p in
+row-of n [] i w t h = absurd (not-suc-le-zero h)
+row-of n (l ∷ ls) zero w t h = (fields (fixed l) w (and-l (fits (fixed l)) (allFit ls) t), sym (add-zero n))
+row-of n (l ∷ ls) (suc i) w t h =
+    let q = row-of (suc n) ls i w (and-r (fits (fixed l)) (allFit ls) t) (le-of-suc-le-suc h) in
     (q .0, q .1 ∙ suc-add n i ∙ sym (add-suc n i))
 
-getD-known : (w : ℕ) (ls : List Line) (i : ℕ) → i < length ls → getD (map (known w) ls) i Refused ≡ known w (getD ls i no-line)
+pub rows-listed : RowsListed
+unfolding standing allFit listing fixed
+rows-listed i w h = let q = row-of 1 listing i w tt h in (q .0, q .1 ∙ suc-add 0 i ∙ ap suc (zero-add i))
+
+getD-known : (w : ℕ) (ls : List Line) (i : ℕ) → i < length ls → getD (map (known w) ls) i Refused ≡ known w (getD ls i noLine)
 getD-known w [] i h = absurd (not-suc-le-zero h)
 getD-known w (l ∷ ls) zero h = refl
 getD-known w (l ∷ ls) (suc i) h = getD-known w ls i (le-of-suc-le-suc h)
 
-rows-length : (n : ℕ) (ls : List Line) → length (rowsFrom n ls) ≡ length ls
-unfolding rowsFrom
-rows-length n [] = refl
-rows-length n (l ∷ ls) = ap suc (rows-length (suc n) ls)
-
--- a word that has the opcode, funct3 and funct7 of a line decodes to the line's operation
-pub accepted : (i w : ℕ) → i < length listing → T (has (fixed (getD listing i no-line)) w) → decodeOf w ≡ Known (operation (getD listing i no-line) w)
-unfolding decodeOf decodeWith operationOf standing allFit listing fixed
+pub accepted : LinesAccepted
+unfolding decodeOf decodeWith operationOf
 accepted i w h p =
-    let q = row-of 1 listing i w tt h p in
-    let g : i < length standing = rw (rows-length 1 listing) h in
-    let e : findRow standing w ≡ suc i = found standing standing-apart i w g (q .0) ∙ q .1 ∙ suc-add 0 i ∙ ap suc (zero-add i) in
+    let q = rows-listed i w h in
+    let g : i < length standing = rw (forty-four .1, ← forty-four .0) h in
+    let e : findRow standing w ≡ suc i = found standing standing-apart i w g (subst T (sym (q .0)) p) ∙ q .1 in
     rw e (getD-known w listing i h)
 
 -- a row of these fields
@@ -90,20 +87,22 @@ allBeside : List Fixed → Bool
 allBeside [] = true
 allBeside (f ∷ fs) = fits f && apartFrom (rowOf f) standing && allBeside fs
 
-beside-at : (fs : List Fixed) (i w : ℕ) → T (allBeside fs) → i < length fs → T (has (getD fs i (Opcode 0)) w) → findRow standing w ≡ 0
+beside-at : (fs : List Fixed) (i w : ℕ) → T (allBeside fs) → i < length fs → T (has (getD fs i (Opcode 0)) w)
+    → T (apartFrom (rowOf (getD fs i (Opcode 0))) standing) × T (matches (rowOf (getD fs i (Opcode 0))) w)
 unfolding allBeside
 beside-at [] i w t h p = absurd (not-suc-le-zero h)
 beside-at (f ∷ fs) zero w t h p =
     let b = and-l (fits f && apartFrom (rowOf f) standing) (allBeside fs) t in
-    beside (rowOf f) standing w (and-r (fits f) (apartFrom (rowOf f) standing) b)
-    (subst T (sym (fields f w (and-l (fits f) (apartFrom (rowOf f) standing) b))) p)
+    (and-r (fits f) (apartFrom (rowOf f) standing) b, subst T (sym (fields f w (and-l (fits f) (apartFrom (rowOf f) standing) b))) p)
 beside-at (f ∷ fs) (suc i) w t h p =
     beside-at fs i w (and-r (fits f && apartFrom (rowOf f) standing) (allBeside fs) t) (le-of-suc-le-suc h) p
 
--- a word with the fields of MULH, MULHSU, MULHU, ECALL or EBREAK is refused
-pub not-accepted : (i w : ℕ) → i < length refused → T (has (getD refused i (Opcode 0)) w) → decodeOf w ≡ Refused
+pub named-refused : NamedRefused
 unfolding decodeOf decodeWith operationOf refused allBeside apartFrom standing rowsFrom listing fixed maskOf matchOf
-not-accepted i w h p = rw (beside-at refused i w tt h p)
+named-refused i w h p =
+    let r = rowOf (getD refused i (Opcode 0)) in
+    let b = beside-at refused i w tt h p in
+    (λ j g q. not-both r (getD standing j noRow) w (from r standing (b .0) j g) (b .1) q, rw (beside r standing w (b .0) (b .1)))
 
 -- the lines' operations are numbered from n on
 counted : ℕ → List Line → ℕ → Bool
@@ -119,8 +118,7 @@ counted-at n (l ∷ ls) zero w o t e =
 counted-at n (l ∷ ls) (suc i) w o t e =
     counted-at (suc n) ls i w o (and-r (eqb (numberOf (operation l w)) n) (counted (suc n) ls w) t) e ∙ suc-add n i ∙ sym (add-suc n i)
 
--- the operation that a number stands for has that number
-pub numbered : (n w : ℕ) (o : Operation) → operationOf n w ≡ Known o → numberOf o ≡ n
+pub numbered : Numbered
 unfolding operationOf listing counted operation numberOf
 numbered zero w o e = let z : _≡_ {A = ℕ} 0 1 = cc in omega arith
 numbered (suc n) w o e = counted-at 1 listing n w o tt e ∙ suc-add 0 n ∙ ap suc (zero-add n)

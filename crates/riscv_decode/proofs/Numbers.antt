@@ -5,7 +5,7 @@ use Prim.Native.Nat.{ℕ, zero, suc, _+_, _≤_, _<_}
 use native.Mathlib.Omega.{arith}
 use lib.ListN.{List·getD-eq-default}
 use Rattle.riscv_decode.specs.Decode.{operationOf}
-use Rattle.riscv_decode.specs.Listing.{listing, operation}
+use Rattle.riscv_decode.specs.Listing.{operationCount, listing, operation}
 use Rattle.riscv_decode.specs.declared.Decoded.the-variants.{Known, Refused}
 
 -- n is none of the k numbers from a on
@@ -21,7 +21,7 @@ above a n (suc k) h r = omega (arith, above a n k h (r .0), r .1)
 pub last : (a k n : ℕ) → (a ≤ n) × (n ≤ a + k) → None a n k → n ≡ a + k
 last a k n h r = omega (arith, above a n k (h .0) r)
 
--- above 44 there is no operation
-pub beyond : (n w : ℕ) → 44 < n → Refused ≡ operationOf n w
+-- above the last there is no operation
+pub beyond : (n w : ℕ) → operationCount < n → Refused ≡ operationOf n w
 unfolding operationOf listing
 beyond n w h = sym (List·getD-eq-default (Refused ∷ map (λ l. Known (operation l w)) listing) Refused h)

@@ -9,7 +9,7 @@ use Rattle.riscv_decode.specs.declared.Row.{Row}
 use Rattle.riscv_decode.specs.declared.Decoded.{Decoded}
 use Rattle.riscv_decode.specs.declared.Decoded.the-variants.{Known, Refused}
 
--- the operation of a number, with the operands that the word has in its format; 0 and what is above 44 have none
+-- the operation of a number, with the operands that the word has in its format; 0 and what is above the listing's length have none
 unfoldable pub operationOf : ℕ → ℕ → Decoded
 operationOf n w = getD (Refused ∷ map (λ l. Known (operation l w)) listing) n Refused
 

@@ -4,3 +4,4 @@ pub mod Listing
 pub mod Operations
 pub mod Rows
 pub mod Decode
+pub mod Statements

@@ -25,8 +25,12 @@ pub data Line : Type 0 where
   R : ℕ → ℕ → ℕ → (RType → Operation) → Line
   NoOperands : ℕ → ℕ → Operation → Line
 
--- "Forty-four operations are accepted": a line's place, counted from 1, is its operation's number. FENCE and FENCE.I "are
--- known by opcode 0F and funct3 0 or 1", whatever their other fields
+-- "Forty-four operations are accepted"
+abbrev pub operationCount : ℕ
+operationCount = 44
+
+-- their lines: a line's place, counted from 1, is its operation's number. FENCE and FENCE.I "are known by opcode 0F and
+-- funct3 0 or 1", whatever their other fields
 unfoldable pub listing : List Line
 listing =
     U 0x37 Lui ∷
@@ -74,6 +78,10 @@ listing =
     NoOperands 0x0f 0 Fence ∷
     NoOperands 0x0f 1 FenceI ∷
     []
+
+-- what stands past the listing's end
+abbrev pub noLine : Line
+noLine = NoOperands 0 0 Fence
 
 -- the operation of a line, with the operands that the word has in the line's format
 unfoldable pub operation : Line → ℕ → Operation

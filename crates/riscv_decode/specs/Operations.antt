@@ -3,7 +3,7 @@ use Prim.Native.Nat.{ℕ}
 use Rattle.riscv_decode.specs.declared.Operation.{Operation}
 use Rattle.riscv_decode.specs.declared.Operation.the-variants.{Lui, Auipc, Jal, Jalr, Beq, Bne, Blt, Bge, Bltu, Bgeu, Lb, Lh, Lw, Lbu, Lhu, Sb, Sh, Sw, Addi, Slti, Sltiu, Xori, Ori, Andi, Slli, Srli, Srai, Add, Sub, Sll, Slt, Sltu, Xor, Srl, Sra, Or, And, Mul, Div, Divu, Rem, Remu, Fence, FenceI}
 
--- 1 to 44, in document 01's order, within its groups in that of the manual's listing
+-- from 1 on in document 01's order, within its groups in that of the manual's listing
 unfoldable pub numberOf : Operation → ℕ
 numberOf (Lui v) = 1
 numberOf (Auipc v) = 2

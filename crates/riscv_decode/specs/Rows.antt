@@ -64,7 +64,7 @@ rowsFrom n [] = []
 rowsFrom n (l ∷ ls) =
     record { 0 = maskOf (fixed l); 1 = matchOf (fixed l); 2 = n } ∷ rowsFrom (suc n) ls
 
--- the standing table: forty-four rows, numbered 1 to 44
+-- the standing table: a row for each of the listing's lines, numbered from 1
 unfoldable pub standing : List Row
 standing = rowsFrom 1 listing
 

@@ -11,6 +11,9 @@ use rows::Table;
 use rows::find_row;
 use rows::find_standing_row;
 
+// How many operations are accepted.
+pub const OPERATIONS: usize = 44;
+
 // Operands, a struct for each of the manual's formats; immediates are sign-extended to 32 bits.
 pub struct UType {
     pub rd: u32,
@@ -52,7 +55,7 @@ pub struct RType {
     pub rs2: u32,
 }
 
-// The accepted operations in the order of their numbers, 1 to 44, each with its operands.
+// The accepted operations in the order of their numbers, from 1 on, each with its operands.
 pub enum Operation {
     Lui(UType),
     Auipc(UType),
@@ -116,14 +119,14 @@ pub struct Fetched {
 // A row of a decoding table: mask, match and operation number.
 pub struct Row(pub u32, pub u32, pub u32);
 
-// The operation of a number, with the operands that the word has in its format; 0 and what is above 44 have none.
+// The operation of a number, with the operands that the word has in its format; 0 and what is above the last have none.
 fn decode_as(number: u32, word: u32) -> Decoded
     ensures { λ r. ⌜ r ≡ operationOf number word ⌝ }
 {
     if number == 0 {
         return Decoded::Refused;
     }
-    if 44 < number {
+    if (OPERATIONS as u32) < number {
         return Decoded::Refused;
     }
     Decoded::Known(operation_of(number, word))

@@ -2,6 +2,7 @@
 ghost use mathlib.Core.Path.{_≡_};
 ghost use Prim.Native.Nat.{_≤_};
 ghost use Rattle.riscv_decode.specs.Decode.{operationOf};
+ghost use Rattle.riscv_decode.specs.Listing.{operationCount};
 ghost use Rattle.riscv_decode.specs.Operands.{uType, jType, iType, bType, sType, shiftType, rType};
 use crate::BType;
 use crate::Decoded;
@@ -93,7 +94,7 @@ pub fn r_type(word: u32) -> RType
 
 // The operation of a number, with the operands that the word has in its format.
 pub fn operation_of(number: u32, word: u32) -> Operation
-    requires { ⌜ (1 ≤ number) × (number ≤ 44) ⌝ }
+    requires { ⌜ (1 ≤ number) × (number ≤ operationCount) ⌝ }
     ensures { λ r. ⌜ Decoded.Known r ≡ operationOf number word ⌝ }
 {
     match number {

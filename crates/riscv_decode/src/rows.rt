@@ -1,10 +1,11 @@
 // The table of mask and match rows, and its scan.
 ghost use mathlib.Core.Path.{_≡_};
 ghost use Rattle.riscv_decode.specs.Rows.{standing, Stands, matches, findRow};
+use crate::OPERATIONS;
 use crate::Row;
 
 // A table of as many rows as there are operations.
-pub type Table = [Row; 44];
+pub type Table = [Row; OPERATIONS];
 
 // The rows of the operations, in the order of their numbers.
 const LUI: Row = Row(0x0000_007f, 0x0000_0037, 1);
@@ -163,7 +164,7 @@ pub fn find_row(rows: Table, word: u32) -> u32
     ensures { λ r. ⌜ r ≡ findRow rows word ⌝ }
 {
     let mut i = 0;
-    while i < 44 {
+    while i < OPERATIONS {
         let row = rows[i];
         if row.matches(word) {
             return row.2;

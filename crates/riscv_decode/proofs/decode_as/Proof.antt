@@ -11,6 +11,7 @@ decode-as-spec =
     tie.close
     (tie.spec
     (λ c. ap (λ n. operationOf n (c .before .args .word)) (sym (c .if1 .taken)))
+    (λ c. search needs)
     (λ c. beyond _ (c .before .before .args .word) (c .if2 .taken))
     (λ c κs. search needs)
     (λ c. c .operation-of .ensures))
