@@ -5,7 +5,10 @@ pub mod Values
 pub mod Steps
 pub mod Guarantee
 pub mod Laws
+mod Computing
 pub mod Cases
+pub mod Bound
+pub mod Limits
 pub mod Always
 pub mod Written
 pub mod RecordRules

@@ -11,5 +11,6 @@ pub mod Lane
 pub mod Standing
 pub mod Guarantee
 pub mod Cases
+pub mod Bound
 pub mod RecordRules
 pub mod Blank

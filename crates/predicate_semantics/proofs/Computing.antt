@@ -1,0 +1,40 @@
+-- What a proof by computation opens: to unfold one of these is to unfold what its line names.
+use Rattle.riscv32imc.specs.Bits as Bits
+use Rattle.riscv32imc.specs.Expansion as Expansion
+use Rattle.riscv_decode.specs.Listing as Listing
+use Rattle.riscv_decode.specs.Rows as Rows
+use Rattle.riscv_decode.specs.Decode as Decode
+use Rattle.lane_word.specs.Word as Word
+use Rattle.predicate_semantics.specs.Choice as Choice
+use Rattle.predicate_semantics.specs.Meaning as Meaning
+use Rattle.predicate_semantics.specs.Program as Program
+use Rattle.predicate_semantics.specs.State as State
+use Rattle.predicate_semantics.specs.Memory as Memory
+use Rattle.predicate_semantics.specs.Refusal as Refusal
+use Rattle.predicate_semantics.specs.Lane as Lane
+use Rattle.predicate_semantics.specs.Scalar as Scalar
+use Rattle.predicate_semantics.specs.Standing as Standing
+
+unfoldable pub expansion : Unit {0}
+unfolding Bits.signExtend Expansion.expand Expansion.quadrant0 Expansion.quadrant1 Expansion.cLi Expansion.place Expansion.cArithmetic Expansion.cOperations Expansion.quadrant2 Expansion.cRegisters
+expansion = tt
+
+unfoldable pub decoding : Unit {0}
+unfolding Bits.signExtend Listing.listing Listing.operation Listing.fixed Rows.maskOf Rows.matchOf Rows.rowsFrom Rows.standing Rows.findRow Decode.operationOf Decode.decodeWith Decode.decodeOf
+decoding = tt
+
+unfoldable pub words : Unit {0}
+unfolding Word.unknown Word.constant Word.domain Word.zip Word.unary Word.binary Word.every Word.inputs
+words = tt
+
+unfoldable pub running : Unit {0}
+unfolding Choice.choose Meaning.meaning Program.initial Program.sized Program.inMemory Program.placed State.fill State.atStart State.assign State.recorded State.advance State.apply Memory.byteAt Memory.laneBytes Memory.put Memory.read Memory.write Refusal._>>=_ Refusal.refuse Refusal.require Refusal.found Lane.uniform Lane.inside Lane.on Lane.lanes Lane.memoryOf Lane.agreed Lane.access Lane.accessAgreed Lane.fetchWord Lane.fetch Lane.reg Lane.operand Lane.execute Lane.look Lane.step Lane.events Lane.finish Lane.run Lane.begin Lane.start Lane.laneRun
+running = tt
+
+unfoldable pub scalar : Unit {0}
+unfolding Scalar._>>=_ Scalar.require Scalar.put Scalar.read Scalar.write Scalar.inside Scalar.access Scalar.reg Scalar.operand Scalar.fetchWord Scalar.fetch Scalar.execute Scalar.look Scalar.step Scalar.events Scalar.finish Scalar.run Scalar.start Scalar.scalarRun
+scalar = tt
+
+unfoldable pub standing : Unit {0}
+unfolding Standing.expandedWord Standing.decodedOperation Standing.standingCore Standing.standing Standing.setup Standing.standingLaneRun Standing.standingScalarRun
+standing = tt
