@@ -24,3 +24,11 @@ example-result = refl
 pub example-execution : Lane.execution (Standing.standing Cases.return1 (Cases.symbols imageBase)) (Standing.setup 200 2048) (Cases.example .state) Cases.exampleResult ≡ Cases.exampleExecution
 unfolding expansion decoding words running standing Cases.symbols Cases.half Cases.return1 Cases.example Cases.exampleResult Cases.exampleExecution Lane.execution Lane.laneOperations Lane.writtenBytes
 example-execution = refl
+
+pub one-event-result : Cases.oneEventRun .answer ≡ passed Cases.oneEventResult
+unfolding expansion decoding words running standing Cases.symbols Cases.word Cases.half Cases.return1 Cases.oneEvent Cases.oneEventRun Cases.oneEventResult
+one-event-result = refl
+
+pub one-event-execution : Lane.execution (Standing.standing Cases.oneEvent (Cases.symbols imageBase)) (Standing.setup 200 2048) (Cases.oneEventRun .state) Cases.oneEventResult ≡ Cases.oneEventExecution
+unfolding expansion decoding words running standing Cases.symbols Cases.word Cases.half Cases.return1 Cases.oneEvent Cases.oneEventRun Cases.oneEventResult Cases.oneEventExecution Lane.execution Lane.laneOperations Lane.writtenBytes
+one-event-execution = refl

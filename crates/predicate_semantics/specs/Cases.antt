@@ -6,6 +6,7 @@ use mathlib.Core.List.{List, [], _∷_, _++_}
 use Prim.Native.Nat.{ℕ, _/_, _%_}
 use lib.Dec.{eqb}
 use Rattle.riscv32imc.specs.Constants.{imageBase}
+use Rattle.predicate_semantics.specs.declared.PredicateControlStep.{PredicateControlStep}
 use Rattle.predicate_semantics.specs.declared.PredicateTransducerExecution.{PredicateTransducerExecution}
 use Rattle.predicate_semantics.specs.declared.Rv32SymbolLayout.{Rv32SymbolLayout}
 use Rattle.predicate_semantics.specs.Program.{stop}
@@ -117,6 +118,15 @@ ScalarRunsGiveZero =
     (standingScalarRun (0xAD ∷ 0x8D ∷ 0x2E ∷ 0x85 ∷ 0x82 ∷ 0x80 ∷ []) (symbols imageBase) input others)
     ≡ some 0
 
+-- program counter, word after expansion, length, next program counter
+abbrev pub controlStep : ℕ → ℕ → ℕ → ℕ → PredicateControlStep
+controlStep pc word bytes next = record {
+  «program_counter» = pc;
+  «instruction_word» = word;
+  «instruction_bytes» = bytes;
+  «next_program_counter» = next;
+}
+
 -- document 01's example of the program, 05 45 82 80; its trace holds the words after expansion
 unfoldable pub example : Ended
 example = standingLaneRun return1 (symbols imageBase) 200 2048
@@ -126,20 +136,7 @@ unfoldable pub exampleResult : Result
 exampleResult = record {
   returnValue = 1;
   steps = 2;
-  trace =
-      record {
-        «program_counter» = 0x80000000;
-        «instruction_word» = 0x00100513;
-        «instruction_bytes» = 2;
-        «next_program_counter» = 0x80000002;
-      }
-      ∷ record {
-        «program_counter» = 0x80000002;
-        «instruction_word» = 0x00008067;
-        «instruction_bytes» = 2;
-        «next_program_counter» = 0x801FFFFC;
-      }
-      ∷ [];
+  trace = controlStep 0x80000000 0x00100513 2 0x80000002 ∷ controlStep 0x80000002 0x00008067 2 0x801FFFFC ∷ [];
   events = [];
 }
 
@@ -153,4 +150,55 @@ exampleExecution = record {
   «lane_value_operations» = 500;
   «sparse_memory_bytes» = 4;
   «event_count» = 0;
+}
+
+-- an image that leaves one event: operation 2, offset 16, value 12345000, counted by an SW at 80000014
+unfoldable pub oneEvent : List ℕ
+oneEvent =
+    -- LUI x11, 80001
+    word 0x800015B7
+    -- C.LI x12, 2; C.SW x12, 4(x11)
+    ++ half 0x4609 ++ half 0xC1D0
+    -- C.LI x12, 16; C.SW x12, 8(x11)
+    ++ half 0x4641 ++ half 0xC590
+    -- LUI x12, 12345; C.SW x12, 12(x11)
+    ++ word 0x12345637 ++ half 0xC5D0
+    -- C.LI x12, 1; SW x12, 0(x11)
+    ++ half 0x4605 ++ word 0x00C5A023
+    ++ return1
+
+unfoldable pub oneEventRun : Ended
+oneEventRun = standingLaneRun oneEvent (symbols imageBase) 200 2048
+
+-- .. its result
+unfoldable pub oneEventResult : Result
+oneEventResult = record {
+  returnValue = 1;
+  steps = 11;
+  trace =
+      controlStep 0x80000000 0x800015B7 4 0x80000004
+      ∷ controlStep 0x80000004 0x00200613 2 0x80000006
+      ∷ controlStep 0x80000006 0x00C5A223 2 0x80000008
+      ∷ controlStep 0x80000008 0x01000613 2 0x8000000A
+      ∷ controlStep 0x8000000A 0x00C5A423 2 0x8000000C
+      ∷ controlStep 0x8000000C 0x12345637 4 0x80000010
+      ∷ controlStep 0x80000010 0x00C5A623 2 0x80000012
+      ∷ controlStep 0x80000012 0x00100613 2 0x80000014
+      ∷ controlStep 0x80000014 0x00C5A023 4 0x80000018
+      ∷ controlStep 0x80000018 0x00100513 2 0x8000001A
+      ∷ controlStep 0x8000001A 0x00008067 2 0x801FFFFC
+      ∷ [];
+  events = record { operation = 2; offset = 16; value = 0x12345000; location = 0x80000014 } ∷ [];
+}
+
+-- .. its numbers: the event's sixteen bytes and stop's four are written
+unfoldable pub oneEventExecution : PredicateTransducerExecution
+oneEventExecution = record {
+  «first_input» = 6;
+  «lane_count» = 250;
+  «return_value» = 1;
+  «symbolic_transitions» = 11;
+  «lane_value_operations» = 2750;
+  «sparse_memory_bytes» = 20;
+  «event_count» = 1;
 }
