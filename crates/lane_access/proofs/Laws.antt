@@ -26,14 +26,23 @@ unfolding byteAt choose
 byte-below other e a [] h k = refl
 byte-below other e a (w ∷ m) h k = rw (ne-eqb (w .address) a (λ q. omega (arith, q, h, k .0))) (byte-below other e a m h (k .1))
 
+-- past the image's end memory starts with zeros
+initial-past : (image : List ℕ) (a : ℕ) → length image ≤ offsetOf a → initial image a ≡ 0
+unfolding initial
+initial-past image a h = rw (List·getD-eq-default image 0 h) (go (ltb a imageBase))
+  where
+    go : (b : Bool) → _≡_ {A = ℕ} (cond b 0 0) 0
+    go true = refl
+    go false = refl
+
 pub seen-holds : (image rows : List ℕ) (n : ℕ) (m : List Written) → Holds rows n m → Above (imageBase + length image) m → seen image rows ≡ laneBytes image lanes m
-unfolding seen laneBytes initial
+unfolding seen laneBytes
 seen-holds image rows n m h k = fun-ext (λ a. go a (ltb (offsetOf a) (length image)) refl)
   where
     go : (a : ℕ) (b : Bool) → ltb (offsetOf a) (length image) ≡ b
         → cond b (constant lanes (initial image a)) (loadByte rows a 0) ≡ byteAt (constant lanes (initial image a)) a m
     go a true e = sym (byte-below (constant lanes (initial image a)) (imageBase + length image) a m (omega (arith, ltb-true (offsetOf a) (length image) e)) k)
-    go a false e = rw (List·getD-eq-default image 0 (ltb-false (offsetOf a) (length image) e)) (holds-load h a 0)
+    go a false e = rw (initial-past image a (ltb-false (offsetOf a) (length image) e)) (holds-load h a 0)
 
 -- a store at or above a number keeps every written address there
 above-put : (e a : ℕ) (b : LaneWord) (m : List Written) → e ≤ a → Above e m → Above e (put a b m)

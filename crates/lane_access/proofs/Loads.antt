@@ -5,7 +5,7 @@ use mathlib.Core.List.{List, [], _∷_}
 use Prim.Native.Nat.{ℕ, zero, suc, _+_, _-_, _*_, _%_, _^_, _≤_, _<_}
 use native.Mathlib.Nat.{mod-eq-of-lt, pow-suc}
 use native.Mathlib.Omega.{arith}
-use borrow.Author.Tests.{eq-eqb, ne-eqb, lt-ltb, leb-true}
+use borrow.Author.Tests.{eq-eqb, ne-eqb, lt-ltb, le-ltb, leb-true}
 use lib.Dec.{ltb, leb}
 use lib.ListN.{length, getD, take, drop, length-drop}
 use lib.Seq.{drop-cons, length-take-le}
@@ -24,7 +24,7 @@ use Rattle.predicate_semantics.specs.Choice.{choose}
 use Rattle.predicate_semantics.specs.Program.{memoryEnd, initial}
 use Rattle.predicate_semantics.specs.Memory.{LaneBytes, read}
 use Rattle.predicate_semantics.specs.Refusal.{Refusal, Tested, passed, refused, refuse, require, found, _>>=_}
-use Rattle.predicate_semantics.specs.Lane.{uniform, inside, agreed, access, accessAgreed, fetchWord, fetch}
+use Rattle.predicate_semantics.specs.Lane.{inside, agreed, access, accessAgreed, fetchWord, fetch}
 use Rattle.predicate_semantics.specs.Standing.{standingCore}
 use Rattle.lane_memory.specs.Rows.{loadByte, toldByte}
 use Rattle.lane_memory.proofs.Laws.{load-below, told-byte}
@@ -42,12 +42,12 @@ tested role v true true = refl
 tested role v true false = refl
 tested role v false c = refl
 
-pub agreed-is : (role : ℕ) (w : LaneWord) → agreed (inputs firstInput lanes) role w ≡ testedAs role (uniformOf w)
-unfolding agreed uniform uniformOf
+pub agreed-is : (role : ℕ) (w : LaneWord) → agreed role w ≡ testedAs role (uniformOf w)
+unfolding agreed uniformOf
 agreed-is role w = tested role (getD (w .values) 0 0) (w .known) (every (getD (w .values) 0 0) (w .values))
 
 -- a constant passes every uniform test
-pub agreed-constant : (role v : ℕ) → agreed (inputs firstInput lanes) role (constant lanes v) ≡ passed v
+pub agreed-constant : (role v : ℕ) → agreed role (constant lanes v) ≡ passed v
 agreed-constant role v = agreed-is role (constant lanes v) ∙ ap (testedAs role) (uniform-constant lanes v (omega arith))
 
 -- the byte by the code's test
@@ -172,10 +172,15 @@ join-small x y n hx hy hn =
     let b : 256 ^ n ≤ 16777216 = small n hn in
     mod-eq-of-lt (omega arith)
 
+-- from memory's first byte on, memory starts with the image's bytes
+initial-at : (image : List ℕ) (a : ℕ) → imageBase ≤ a → initial image a ≡ getD image (offsetOf a) 0
+unfolding initial
+initial-at image a l = rw (le-ltb a imageBase l)
+
 -- a number that lies whole in the image is told
 pub told-image : (image rows : List ℕ) → AllBytes image → (n a : ℕ) → n ≤ 4 → imageBase ≤ a → offsetOf a + n ≤ length image
     → toldRead (toldSeen image rows) n a ≡ Value (value (take n (drop (offsetOf a) image)))
-unfolding toldRead toldSeen initial
+unfolding toldRead toldSeen
 told-image image rows h zero a k l f = refl
 told-image image rows h (suc n) a k l f =
     let o : ℕ = offsetOf a in
@@ -187,7 +192,7 @@ told-image image rows h (suc n) a k l f =
     let j : join (getD image o 0) (value rest) ≡ getD image o 0 + 256 * value rest = join-small _ _ n (h o) b' (omega arith) in
     let ih : toldRead (toldSeen image rows) n (suc a) ≡ Value (value rest)
     = rw e at (told-image image rows h n (suc a) (omega arith) (omega arith) (omega arith)) in
-    rw (lt-ltb o (length image) (omega arith), ih, j, drop-cons image o 0 (omega arith))
+    rw (lt-ltb o (length image) (omega arith), ih, initial-at image a l, j, drop-cons image o 0 (omega arith))
 
 -- a number lies there where as many bytes are left from its offset on
 pub lies-left : (image : List ℕ) (a o v n : ℕ) → n ≤ 4 → o ≡ offsetOf a → o < length image → leb n (length image - o) ≡ true → v ≡ value (take n (drop o image)) → Lies v image a n
@@ -231,7 +236,7 @@ module _ (memory : LaneBytes) (n a : ℕ) where
   accessed-word r e h = ap (λ (x : Tested (Unit {0}) × LaneWord). x .1) (e ∙ ap accessedAs (access-inside h))
 
   module _ (role : ℕ) where
-    pub agreed-inside : inside a n ≡ passed tt → accessAgreed (inputs firstInput lanes) role memory n a ≡ agreed (inputs firstInput lanes) role (read lanes memory n a)
+    pub agreed-inside : inside a n ≡ passed tt → accessAgreed (inputs firstInput lanes) role memory n a ≡ agreed role (read lanes memory n a)
     unfolding accessAgreed _>>=_
     agreed-inside h = rw (access-inside h)
 
@@ -275,14 +280,15 @@ first-read memory h (suc n) a k =
 
 first-seen : (image rows : List ℕ) → AllBytes image → AllBytes rows → (a : ℕ) → getD (seen image rows a .values) 0 0 < 256
 unfolding seen initial constant
-first-seen image rows h k a = go (ltb (offsetOf a) (length image))
+first-seen image rows h k a = go (ltb (offsetOf a) (length image)) (ltb a imageBase)
   where
-    go : (b : Bool) → getD (cond b (constant lanes (initial image a)) (loadByte rows a 0) .values) 0 0 < 256
-    go true = h (offsetOf a)
-    go false = load-below rows a 0 k (omega arith) 0
+    go : (b c : Bool) → getD (cond b (constant lanes (cond c 0 (getD image (offsetOf a) 0))) (loadByte rows a 0) .values) 0 0 < 256
+    go true true = omega arith
+    go true false = h (offsetOf a)
+    go false c = load-below rows a 0 k (omega arith) 0
 
-agreed-first : (role v : ℕ) (w : LaneWord) → agreed (inputs firstInput lanes) role w ≡ passed v → getD (w .values) 0 0 ≡ v
-unfolding agreed uniform choose refuse
+agreed-first : (role v : ℕ) (w : LaneWord) → agreed role w ≡ passed v → getD (w .values) 0 0 ≡ v
+unfolding agreed choose refuse
 agreed-first role v w h = go (w .known) (every (getD (w .values) 0 0) (w .values)) h
   where
     go : (b c : Bool) → choose b (λ _. choose c (λ _. passed (getD (w .values) 0 0)) (λ _. refuse 7 role)) (λ _. refuse 6 role) ≡ passed v → getD (w .values) 0 0 ≡ v

@@ -111,7 +111,7 @@ pub fn agreed_in(tested: Uniform, role: Role) -> Agreed
 
 // The lanes' common value, or the refusal in this role.
 pub fn agree(word: LaneWord, role: Role) -> Agreed
-    ensures { λ r. ⌜ agreedOf r ≡ agreed (inputs firstInput lanes) (roleOf role) word ⌝ }
+    ensures { λ r. ⌜ agreedOf r ≡ agreed (roleOf role) word ⌝ }
 {
     agreed_in(word.uniform_known(), role)
 }
@@ -133,10 +133,13 @@ fn in_image(image: &[u8], address: u32) -> bool
     offset_of(address) < image.len()
 }
 
-// The image's byte at an address, 0 past its end.
+// The image's byte at an address, 0 past its end and below it.
 fn image_byte(image: &[u8], address: u32) -> u32
     ensures { λ r. ⌜ r ≡ initial (now (image .entry)) address ⌝ }
 {
+    if address < riscv32imc::RV32_IMAGE_BASE {
+        return 0;
+    }
     little_endian::get_u8(image, offset_of(address)) as u32
 }
 

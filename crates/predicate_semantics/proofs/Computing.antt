@@ -28,7 +28,7 @@ unfolding Word.unknown Word.constant Word.domain Word.zip Word.unary Word.binary
 words = tt
 
 unfoldable pub running : Unit {0}
-unfolding Choice.choose Meaning.meaning Program.initial Program.sized Program.inMemory Program.placed State.fill State.atStart State.assign State.recorded State.advance State.apply Memory.byteAt Memory.laneBytes Memory.put Memory.read Memory.write Refusal._>>=_ Refusal.refuse Refusal.require Refusal.found Lane.uniform Lane.inside Lane.on Lane.lanes Lane.memoryOf Lane.agreed Lane.access Lane.accessAgreed Lane.fetchWord Lane.fetch Lane.reg Lane.operand Lane.execute Lane.look Lane.step Lane.events Lane.finish Lane.run Lane.begin Lane.start Lane.laneRun
+unfolding Choice.choose Meaning.meaning Program.initial Program.sized Program.inMemory Program.placed State.fill State.atStart State.assign State.recorded State.advance State.apply Memory.byteAt Memory.laneBytes Memory.put Memory.read Memory.write Refusal._>>=_ Refusal.refuse Refusal.require Refusal.found Lane.inside Lane.on Lane.lanes Lane.memoryOf Lane.agreed Lane.access Lane.accessAgreed Lane.fetchWord Lane.fetch Lane.reg Lane.operand Lane.execute Lane.look Lane.step Lane.events Lane.finish Lane.run Lane.begin Lane.start Lane.laneRun
 running = tt
 
 unfoldable pub scalar : Unit {0}

@@ -1,21 +1,22 @@
 -- Demand 3: the prefix form and the acceptance form over any list of inputs, and then for inputs 6 to 255.
 use mathlib.Core.Path.{_≡_, refl, _∙_, ap}
 use mathlib.Core.Bool.{Bool, true, false}
-use mathlib.Core.Option.{Option, some}
+use mathlib.Core.Option.{some}
 use Prim.Native.Nat.{ℕ, zero, suc, _+_, _-_, _<_}
 use native.Mathlib.Omega.{arith}
 use lib.Dec.{eqb}
 use lib.ListN.{getElem?}
 use Rattle.riscv32imc.specs.Constants.{maxSteps}
-use Rattle.lane_word.specs.Word.{inputs}
+use Rattle.lane_word.specs.Word.{firstInput, inputs}
+use Rattle.lane_word.specs.Word as Word
 use Rattle.predicate_semantics.specs.Program.{Program, stop}
 use Rattle.predicate_semantics.specs.Choice.{choose}
-use Rattle.predicate_semantics.specs.Refusal.{Tested, passed, refused, _>>=_}
+use Rattle.predicate_semantics.specs.Refusal.{Tested, passed, refused, ifPassed}
 use Rattle.predicate_semantics.specs.Lane.{LaneState, Setup, on, lanes, memoryOf, step, run, after, begin, start, reached, laneRun}
 use Rattle.predicate_semantics.specs.Scalar.{ScalarState}
 use Rattle.predicate_semantics.specs.Standing.{setup, standing, standingLaneRun, standingScalarRun}
 use Rattle.predicate_semantics.specs.Guarantee.{Follows, PrefixGuarantee, CompletedGuarantee, AcceptanceGuarantee, Guarantee}
-use Rattle.predicate_semantics.proofs.Sim.{Sim, agrees, answered}
+use Rattle.predicate_semantics.proofs.Sim.{answered}
 use Rattle.predicate_semantics.proofs.Laws.{run-stop, run-out, run-next, run-refused, step-steps}
 use Rattle.predicate_semantics.proofs.Steps.{Related, related, at-reg, sim-reached, sim-laneRun}
 
@@ -32,23 +33,21 @@ module _ (p : Program) (l : Setup) where
     memory = λ a. mem a .value;
   }
 
-  opened : {k : ℕ} {s : LaneState} {o : Option ScalarState} → (input : ℕ) → getElem? (l .inputs) k ≡ some input
-      → Sim (Related (p .image) (l .inputs) k) (passed s) o → (t : ScalarState) × (o ≡ some t) × Follows p l k s t
-  opened input here (agrees {b} r) = (b, refl, followed _ input here r)
-
   pub prefix-guarantee : PrefixGuarantee p l
-  prefix-guarantee n s e k input here others = opened input here (rw e at (sim-reached p l k input here n others))
+  prefix-guarantee n s e k input here others =
+      let along = sim-reached p l k input here n others s e in
+      (along .0, along .1, followed k input here (along .2))
 
   -- a state is so many steps on from another
   abbrev On : LaneState → LaneState → Type 0
-  On s u = (m : ℕ) × (u .steps ≡ s .steps + m) × (after p l m s ≡ passed u)
+  On s u = (m : ℕ) × (u .steps ≡ s .steps + m) × (after p l m s ≡ some u)
 
   on-none : (s : LaneState) → On s s
   unfolding after
   on-none s = (0, omega arith, refl)
 
   on-next : (s t u : LaneState) → eqb (s .pc) stop ≡ false → step p l s ≡ passed t → On t u → On s u
-  unfolding after choose _>>=_
+  unfolding after choose ifPassed
   on-next s t u b e (m, n, h) = (suc m, omega (arith, step-steps p l s t e), rw (b, e) h)
 
   -- a run ends in a state that it has reached
@@ -66,11 +65,11 @@ module _ (p : Program) (l : Setup) where
       go false b (passed t) e h = rw (run-next p l n s t b e) (on-next s t _ b e (h t))
       go false b (refused r) e h = rw (run-refused p l n s r b e) (on-none s)
 
-  reached-end : (limit : ℕ) → start p l ≡ passed (begin p l) → reached p l ((laneRun p l limit) .state .steps) ≡ passed ((laneRun p l limit) .state)
-  unfolding laneRun on reached _>>=_ begin
+  reached-end : (limit : ℕ) → start p l ≡ passed (begin p l) → reached p l ((laneRun p l limit) .state .steps) ≡ some ((laneRun p l limit) .state)
+  unfolding laneRun on reached ifPassed begin
   reached-end limit e = rw e (go (on-run limit (begin p l)))
     where
-      go : {u : LaneState} → On (begin p l) u → after p l (u .steps) (begin p l) ≡ passed u
+      go : {u : LaneState} → On (begin p l) u → after p l (u .steps) (begin p l) ≡ some u
       go {u} (m, n, h) = ap (λ (x : ℕ). after p l x (begin p l)) (omega (arith, n)) ∙ h
 
   pub completed-guarantee : (limit : ℕ) → CompletedGuarantee p l limit
@@ -89,5 +88,5 @@ inputs-at first (suc count) (suc k) h = inputs-at (suc first) count k (omega ari
 pub guarantee : Guarantee
 unfolding setup standingLaneRun standingScalarRun
 guarantee image symbols rows entries r e input low high others =
-    acceptance-guarantee (standing image symbols) (setup rows entries) maxSteps r e (input - 6) input
-    (inputs-at 6 250 (input - 6) (omega arith) ∙ ap some (omega arith)) others
+    acceptance-guarantee (standing image symbols) (setup rows entries) maxSteps r e (input - firstInput) input
+    (inputs-at firstInput Word.lanes (input - firstInput) (omega arith) ∙ ap some (omega arith)) others

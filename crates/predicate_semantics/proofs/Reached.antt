@@ -1,11 +1,12 @@
 -- The states that a lane run reaches: what the proof of the run's loop cites.
-use mathlib.Core.Path.{_≡_, refl, sym, ap, subst}
+use mathlib.Core.Path.{_≡_, refl, sym, _∙_, ap, subst}
 use mathlib.Core.Bool.{Bool, true, false}
+use mathlib.Core.Option.{Option, none, some, Option·none-ne-some}
 use Prim.Native.Nat.{ℕ, zero, suc}
 use lib.Dec.{eqb}
 use Rattle.predicate_semantics.specs.Choice.{choose}
 use Rattle.predicate_semantics.specs.Program.{Program, stop}
-use Rattle.predicate_semantics.specs.Refusal.{Refusal, Tested, passed, refused, refuse, _>>=_}
+use Rattle.predicate_semantics.specs.Refusal.{Refusal, Tested, passed, refused, ifPassed}
 use Rattle.predicate_semantics.specs.Lane.{LaneState, Setup, step, after, begin, start, reached}
 use Rattle.predicate_semantics.proofs.RecordRules.{Kept, kept-step, kept-start}
 
@@ -17,54 +18,47 @@ Passes (refused r) = ⊥
 pub no-pass : {A : Type 0} {r : Refusal} {a : A} → refused r ≡ passed a → ⊥
 no-pass q = subst Passes (sym q) tt
 
+-- an answer that waits for a test came from a value that passed it
+from-passed : {A B : Type 0} {b : B} (m : Tested A) {f : A → Option B} → ifPassed m f ≡ some b → (a : A) × (m ≡ passed a) × (f a ≡ some b)
+unfolding ifPassed
+from-passed (passed a) q = (a, refl, q)
+from-passed {b = b} (refused r) q = absurd (Option·none-ne-some b q)
+
 module _ (p : Program) (l : Setup) where
+  -- the first of several steps
+  first-step : (n : ℕ) (b s : LaneState) → after p l (suc n) b ≡ some s
+      → (eqb (b .pc) stop ≡ false) × (t : LaneState) × (step p l b ≡ passed t) × (after p l n t ≡ some s)
+  unfolding after choose
+  first-step n b s q = go (eqb (b .pc) stop) refl q
+    where
+      go : (c : Bool) → eqb (b .pc) stop ≡ c → choose c (λ _. none) (λ _. ifPassed (step p l b) (λ t. after p l n t)) ≡ some s
+          → (eqb (b .pc) stop ≡ false) × (t : LaneState) × (step p l b ≡ passed t) × (after p l n t ≡ some s)
+      go true e q = absurd (Option·none-ne-some s q)
+      go false e q = let f = from-passed (step p l b) q in (e, f .0, f .1, f .2)
+
   -- the state after one step more
-  after-next : (n : ℕ) (b s t : LaneState) → after p l n b ≡ passed s → eqb (s .pc) stop ≡ false → step p l s ≡ passed t
-      → after p l (suc n) b ≡ passed t
-  unfolding after choose refuse _>>=_
+  after-next : (n : ℕ) (b s t : LaneState) → after p l n b ≡ some s → eqb (s .pc) stop ≡ false → step p l s ≡ passed t
+      → after p l (suc n) b ≡ some t
+  unfolding after choose ifPassed
   after-next zero b s t q e h = let f : b ≡ s = cc q in rw (f, e, h)
-  after-next (suc n) b s t q e h = go (eqb (b .pc) stop) (step p l b) (λ u q. after-next n u s t q e h) q
-    where
-      go : (c : Bool) (m : Tested LaneState) → ((u : LaneState) → after p l n u ≡ passed s → after p l (suc n) u ≡ passed t) → choose c (λ _. refuse 0 0) (λ _. m >>= λ u. after p l n u) ≡ passed s
-          → choose c (λ _. refuse 0 0) (λ _. m >>= λ u. after p l (suc n) u) ≡ passed t
-      go true m f q = absurd (no-pass q)
-      go false (passed u) f q = f u q
-      go false (refused r) f q = absurd (no-pass q)
+  after-next (suc n) b s t q e h = let f = first-step n b s q in rw (f .0, f .2) (after-next n (f .1) s t (f .3) e h)
 
-  pub reached-next : (n : ℕ) (s t : LaneState) → reached p l n ≡ passed s → eqb (s .pc) stop ≡ false → step p l s ≡ passed t
-      → reached p l (suc n) ≡ passed t
-  unfolding reached _>>=_
-  reached-next n s t q e h = go (start p l) q
-    where
-      go : (m : Tested LaneState) → (m >>= λ b. after p l n b) ≡ passed s → (m >>= λ b. after p l (suc n) b) ≡ passed t
-      go (passed b) q = after-next n b s t q e h
-      go (refused r) q = absurd (no-pass q)
+  pub reached-next : (n : ℕ) (s t : LaneState) → reached p l n ≡ some s → eqb (s .pc) stop ≡ false → step p l s ≡ passed t
+      → reached p l (suc n) ≡ some t
+  unfolding reached ifPassed
+  reached-next n s t q e h = let f = from-passed (start p l) q in rw (f .1) (after-next n (f .0) s t (f .2) e h)
 
-  kept-after : (n : ℕ) (b s : LaneState) → Kept p l b → after p l n b ≡ passed s → Kept p l s
-  unfolding after choose refuse _>>=_
+  kept-after : (n : ℕ) (b s : LaneState) → Kept p l b → after p l n b ≡ some s → Kept p l s
+  unfolding after
   kept-after zero b s k q = let f : b ≡ s = cc q in rw (sym f) k
-  kept-after (suc n) b s k q = go (eqb (b .pc) stop) (step p l b) refl (λ u h q. kept-after n u s (kept-step p l b u k h) q) q
-    where
-      go : (c : Bool) (m : Tested LaneState) → step p l b ≡ m
-          → ((u : LaneState) → step p l b ≡ passed u → after p l n u ≡ passed s → Kept p l s) → choose c (λ _. refuse 0 0) (λ _. m >>= λ u. after p l n u) ≡ passed s → Kept p l s
-      go true m h f q = absurd (no-pass q)
-      go false (passed u) h f q = f u h q
-      go false (refused r) h f q = absurd (no-pass q)
+  kept-after (suc n) b s k q = let f = first-step n b s q in kept-after n (f .1) s (kept-step p l b (f .1) k (f .2)) (f .3)
 
   -- what every step keeps holds of each state that the run reaches
-  pub kept-reached : (n : ℕ) (s : LaneState) → reached p l n ≡ passed s → Kept p l s
-  unfolding reached _>>=_
-  kept-reached n s q = go (start p l) refl q
-    where
-      go : (m : Tested LaneState) → start p l ≡ m → (m >>= λ b. after p l n b) ≡ passed s → Kept p l s
-      go (passed b) h q = kept-after n b s (kept-start p l b h .0) q
-      go (refused r) h q = absurd (no-pass q)
+  pub kept-reached : (n : ℕ) (s : LaneState) → reached p l n ≡ some s → Kept p l s
+  unfolding reached
+  kept-reached n s q = let f = from-passed (start p l) q in kept-after n (f .0) s (kept-start p l (f .0) (f .1) .0) (f .2)
 
   -- the run has passed its first tests
-  pub reached-start : (n : ℕ) (s : LaneState) → reached p l n ≡ passed s → start p l ≡ passed (begin p l)
-  unfolding reached _>>=_
-  reached-start n s q = go (start p l) refl q
-    where
-      go : (m : Tested LaneState) → start p l ≡ m → (m >>= λ b. after p l n b) ≡ passed s → m ≡ passed (begin p l)
-      go (passed b) h q = ap passed (kept-start p l b h .1)
-      go (refused r) h q = absurd (no-pass q)
+  pub reached-start : (n : ℕ) (s : LaneState) → reached p l n ≡ some s → start p l ≡ passed (begin p l)
+  unfolding reached
+  reached-start n s q = let f = from-passed (start p l) q in f .1 ∙ ap passed (kept-start p l (f .0) (f .1) .1)

@@ -26,7 +26,7 @@ use Rattle.predicate_semantics.specs.Program.{Program, memoryEnd, stop, 
 use Rattle.predicate_semantics.specs.State.{Result, Effect, goes, sets, stores, Looked, fill, atStart, recorded, advance, apply}
 use Rattle.predicate_semantics.specs.Memory.{Written, LaneBytes, put, read, write}
 use Rattle.predicate_semantics.specs.Refusal.{Refusal, Tested, passed, refused, refuse, _>>=_}
-use Rattle.predicate_semantics.specs.Lane.{LaneState, Setup, Ended, uniform, on, inside, lanes, memoryOf, agreed, reg, access, accessAgreed, fetchWord, fetch, execute, look, step, events, finish, run, begin, start, laneRun}
+use Rattle.predicate_semantics.specs.Lane.{LaneState, Setup, Ended, on, inside, lanes, memoryOf, agreed, reg, access, accessAgreed, fetchWord, fetch, execute, look, step, events, finish, run, begin, start, laneRun}
 use Rattle.predicate_semantics.specs.Standing.{standingCore, standing, setup, standingLaneRun}
 use Rattle.predicate_semantics.specs.RecordRules.{Chain, Words, ExpandsToWords, Completed, Accepted, TakesStep, proper}
 use Rattle.predicate_semantics.proofs.Lists.{both-left, both-right}
@@ -227,8 +227,8 @@ module _ (p : Program) (l : Setup) where
   }) (recorded-few (p .symbols .«event_count») (s .pc) a n (s .locations))
 
   -- the value that lanes agree on is lane 0's
-  always-agreed : (role : ℕ) (w : LaneWord) → T (leb 1 role && leb role 10) → Always (λ v. v ≡ getD (w .values) 0 0) (agreed (l .inputs) role w)
-  unfolding agreed uniform choose refuse proper
+  always-agreed : (role : ℕ) (w : LaneWord) → T (leb 1 role && leb role 10) → Always (λ v. v ≡ getD (w .values) 0 0) (agreed role w)
+  unfolding agreed choose refuse proper
   always-agreed role w t = go (w .known) (every (getD (w .values) 0 0) (w .values))
     where
       go : (b c : Bool)
@@ -437,7 +437,7 @@ module _ (p : Program) (l : Setup) where
 -- x10 is the input: at entry = stop the return value is not uniform
 uneven : (image : List ℕ) (symbols : Rv32SymbolLayout) (rows entries : ℕ)
     → finish (standing image symbols) (setup rows entries) (begin (standing image symbols) (setup rows entries)) ≡ refuse 7 6
-unfolding finish begin standing setup standingCore fill atStart choose reg agreed uniform every domain inputs refuse _>>=_ lanes constant unknown
+unfolding finish begin standing setup standingCore fill atStart choose reg agreed every domain inputs refuse _>>=_ lanes constant unknown
 uneven image symbols rows entries = refl
 
 always-on : {P : LaneState → Type 0} {Q : Result → Type 0} (s : LaneState) {m : Tested LaneState} (f : LaneState → Ended)

@@ -1,6 +1,7 @@
 -- The lane run simulates each scalar run: each part of a step, the step, n steps, and the whole run.
-use mathlib.Core.Path.{_≡_, refl}
-use mathlib.Core.Option.{some}
+use mathlib.Core.Path.{_≡_, refl, subst}
+use mathlib.Core.Bool.{Bool, true, false}
+use mathlib.Core.Option.{Option, none, some, Option·none-ne-some}
 use mathlib.Core.List.{List, [], _∷_}
 use Prim.Native.Nat.{ℕ, zero, suc, _+_, _%_}
 use lib.Dec.{leb, eqb}
@@ -11,18 +12,19 @@ use Rattle.riscv_decode.specs.declared.Fetched.{Fetched}
 use Rattle.lane_word.specs.declared.LaneWord.{LaneWord}
 use Rattle.lane_word.specs.Word.{constant}
 use Rattle.predicate_semantics.specs.declared.CompiledMmioEvent.{CompiledMmioEvent}
+use Rattle.predicate_semantics.specs.Choice.{choose}
 use Rattle.predicate_semantics.specs.Meaning.{Operand, register, immediate, Meaning, nothing, literal, compute, jump, jumpTo, branch, load, store}
 use Rattle.predicate_semantics.specs.Program.{Program, memoryEnd, stop, stopWord, stackPointer}
 use Rattle.predicate_semantics.specs.State.{Effect, goes, sets, stores, Looked, advance, apply}
 use Rattle.predicate_semantics.specs.Memory.{Written, LaneBytes, laneBytes}
 use Rattle.predicate_semantics.specs.Memory as Memory
-use Rattle.predicate_semantics.specs.Refusal.{refuse, require}
-use Rattle.predicate_semantics.specs.Lane.{LaneState, Setup, lanes, agreed, reg, operand}
+use Rattle.predicate_semantics.specs.Refusal.{Tested, refuse, require, ifPassed}
+use Rattle.predicate_semantics.specs.Lane.{LaneState, Setup, lanes, reg, operand}
 use Rattle.predicate_semantics.specs.Lane as Lane
 use Rattle.predicate_semantics.specs.Scalar.{Bytes, ScalarState}
 use Rattle.predicate_semantics.specs.Scalar as Scalar
 use Rattle.predicate_semantics.proofs.Sim.{Sim, stops, agrees, bind, bind-same, bind-lane, bind-value, bind-into, sim-require, sim-found, sim-choose, sim-ended, bind-ended}
-use Rattle.predicate_semantics.proofs.Values.{At, at-unary, at-binary, at-unknown, sim-uniform, Regs, regs-at, regs-assign, regs-fill, at-start, Mem, at-constant, at-domain, at-read, mem-write, mem-initial}
+use Rattle.predicate_semantics.proofs.Values.{At, at-unary, at-binary, at-unknown, sim-agreed, Regs, regs-at, regs-assign, regs-fill, at-start, Mem, at-constant, at-domain, at-read, mem-write, mem-initial}
 
 -- the scalar state with a lane state's progress
 abbrev pub view : LaneState → List ℕ → Bytes → ScalarState
@@ -48,11 +50,6 @@ module _ (n k : ℕ) where
     seen : (f : Fetched) {e : Effect LaneWord} {d : Effect ℕ} → Same e d → Seen (record { fetched = f; effect = e }) (record { fetched = f; effect = d })
 
 module _ (p : Program) (l : Setup) (k input : ℕ) (here : getElem? (l .inputs) k ≡ some input) where
-  -- the one place where a uniform test meets its lane
-  pub sim-agreed : (role : ℕ) {w : LaneWord} {v : ℕ} → At (length (l .inputs)) k w v → Sim _≡_ (agreed (l .inputs) role w) (some v)
-  unfolding agreed
-  sim-agreed role h = sim-uniform role h
-
   module _ (ws : List Written) (m : Bytes) (mem : Mem (p .image) (l .inputs) k ws m) where
     abbrev bytes : LaneBytes
     bytes = laneBytes (p .image) (length (l .inputs)) ws
@@ -148,13 +145,29 @@ module _ (p : Program) (l : Setup) (k input : ℕ) (here : getElem? (l .inputs) 
         bind-same (sim-require 12 _) (λ _.
         bind-same (sim-events (s .memory) m mem _ _ _) (λ es. agrees refl))))
 
+  -- where the lane run reaches a state, the scalar run reaches one that goes with it
+  abbrev Along : LaneState → Option ScalarState → Type 0
+  Along u o = (v : ScalarState) × (o ≡ some v) × Related (p .image) (l .inputs) k u v
+
+  along : {m : Tested LaneState} {o : Option ScalarState} (f : LaneState → Option LaneState) (g : ScalarState → Option ScalarState) (u : LaneState)
+      → Sim (Related (p .image) (l .inputs) k) m o
+      → ((s : LaneState) (t : ScalarState) → Related (p .image) (l .inputs) k s t → f s ≡ some u → Along u (g t)) → ifPassed m f ≡ some u → Along u (Scalar._>>=_ o g)
+  unfolding ifPassed Scalar._>>=_
+  along f g u stops h q = absurd (Option·none-ne-some u q)
+  along f g u (agrees r) h q = h _ _ r q
+
   -- n completed steps of the lane run are n completed steps of the scalar run
   pub sim-after : (n : ℕ) {s : LaneState} {t : ScalarState} → Related (p .image) (l .inputs) k s t
-      → Sim (Related (p .image) (l .inputs) k) (Lane.after p l n s) (Scalar.after p n t)
-  unfolding Lane.after Scalar.after refuse
-  sim-after zero r = agrees r
-  sim-after (suc n) (related {s} {rs} {m} regs mem) =
-      sim-choose (eqb (s .pc) stop) (λ _. stops) (λ _. bind (sim-step s rs m regs mem) (λ a b r. sim-after n r))
+      → (u : LaneState) → Lane.after p l n s ≡ some u → Along u (Scalar.after p n t)
+  unfolding Lane.after Scalar.after choose
+  sim-after zero {s} {t} r u q = let e : s ≡ u = cc q in (t, refl, subst (λ (x : LaneState). Related (p .image) (l .inputs) k x t) e r)
+  sim-after (suc n) (related {s} {rs} {m} regs mem) u q = go (eqb (s .pc) stop) (λ s t r. sim-after n r u) q
+    where
+      go : (b : Bool) → ((s : LaneState) (t : ScalarState) → Related (p .image) (l .inputs) k s t → Lane.after p l n s ≡ some u → Along u (Scalar.after p n t))
+          → choose b (λ _. none) (λ _. ifPassed (Lane.step p l s) (λ t. Lane.after p l n t)) ≡ some u
+          → Along u (choose b (λ _. none) (λ _. Scalar._>>=_ (Scalar.step p (view s rs m)) (λ t. Scalar.after p n t)))
+      go true h q = absurd (Option·none-ne-some u q)
+      go false h q = along _ _ u (sim-step s rs m regs mem) h q
 
   pub sim-run : (n : ℕ) {s : LaneState} {t : ScalarState} → Related (p .image) (l .inputs) k s t
       → Sim _≡_ ((Lane.run p l n s) .answer) (Scalar.run p n t)
@@ -177,9 +190,9 @@ module _ (p : Program) (l : Setup) (k input : ℕ) (here : getElem? (l .inputs) 
       whole : (v : ℕ) → At (length (l .inputs)) k (constant (length (l .inputs)) v) v
       whole v = at-constant (p .image) (l .inputs) k input here v
 
-  pub sim-reached : (n : ℕ) (others : ℕ → ℕ) → Sim (Related (p .image) (l .inputs) k) (Lane.reached p l n) (Scalar.reached p n input others)
+  pub sim-reached : (n : ℕ) (others : ℕ → ℕ) (u : LaneState) → Lane.reached p l n ≡ some u → Along u (Scalar.reached p n input others)
   unfolding Lane.reached Scalar.reached
-  sim-reached n others = bind (sim-start others) (λ s t r. sim-after n r)
+  sim-reached n others u q = along _ _ u (sim-start others) (λ s t r. sim-after n r u) q
 
   pub sim-laneRun : (limit : ℕ) (others : ℕ → ℕ) → Sim _≡_ ((Lane.laneRun p l limit) .answer) (Scalar.scalarRun p limit input others)
   unfolding Lane.laneRun Scalar.scalarRun

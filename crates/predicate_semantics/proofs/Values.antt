@@ -17,7 +17,7 @@ use Rattle.predicate_semantics.specs.State.{assign, fill, atStart}
 use Rattle.predicate_semantics.specs.Memory.{Written, byteAt, laneBytes}
 use Rattle.predicate_semantics.specs.Memory as Memory
 use Rattle.predicate_semantics.specs.Refusal.{passed, refuse}
-use Rattle.predicate_semantics.specs.Lane.{uniform}
+use Rattle.predicate_semantics.specs.Lane.{agreed}
 use Rattle.predicate_semantics.specs.Scalar.{Bytes}
 use Rattle.predicate_semantics.specs.Scalar as Scalar
 use Rattle.predicate_semantics.proofs.Lists.{map-at, zip-at, replicate-at, both-left, both-right, every-at}
@@ -54,9 +54,9 @@ at-choose true f g u v x y = x
 at-choose false f g u v x y = y
 
 -- a word that passes the test has lane k's value
-pub sim-uniform : {n k : ℕ} (role : ℕ) {w : LaneWord} {v : ℕ} → At n k w v → Sim _≡_ (uniform role w) (some v)
-unfolding uniform choose refuse
-sim-uniform {k = k} role {w} {v} h =
+pub sim-agreed : {n k : ℕ} (role : ℕ) {w : LaneWord} {v : ℕ} → At n k w v → Sim _≡_ (agreed role w) (some v)
+unfolding agreed choose refuse
+sim-agreed {k = k} role {w} {v} h =
     go (w .known) (every (getD (w .values) 0 0) (w .values)) (h .value) (λ t e. every-at (getD (w .values) 0 0) (w .values) k t e)
   where
     go : (b c : Bool) → (T b → getElem? (w .values) k ≡ some v) → (T c → getElem? (w .values) k ≡ some v → getD (w .values) 0 0 ≡ v)

@@ -1,6 +1,7 @@
 -- What stands where a result has nothing: zeros.
 use mathlib.Core.List.{List}
 use lib.ListN.{replicate}
+use Rattle.predicate_semantics.specs.Program.{maxEvents}
 use Rattle.predicate_semantics.specs.declared.CompiledMmioEvent.{CompiledMmioEvent}
 use Rattle.predicate_semantics.specs.declared.PredicateTransducerExecution.{PredicateTransducerExecution}
 
@@ -19,6 +20,6 @@ noExecution =
 abbrev pub noEvent : CompiledMmioEvent
 noEvent = record { operation = 0; offset = 0; value = 0; location = 0 }
 
--- as many as are kept: 32
+-- as many as are kept
 abbrev pub noEvents : List CompiledMmioEvent
-noEvents = replicate 32 noEvent
+noEvents = replicate maxEvents noEvent

@@ -6,6 +6,7 @@ use Prim.Native.Nat.{ℕ, _≤_}
 use lib.Dec.{T}
 use lib.ListN.{getElem?}
 use Rattle.lane_word.specs.declared.LaneWord.{LaneWord}
+use Rattle.lane_word.specs.Word.{firstInput}
 use Rattle.predicate_semantics.specs.declared.Rv32SymbolLayout.{Rv32SymbolLayout}
 use Rattle.predicate_semantics.specs.Program.{Program}
 use Rattle.predicate_semantics.specs.State.{Result}
@@ -14,7 +15,7 @@ use Rattle.predicate_semantics.specs.Scalar.{ScalarState, scalarRun}
 use Rattle.predicate_semantics.specs.Scalar as Scalar
 use Rattle.predicate_semantics.specs.Lane.{LaneState, Setup, laneRun}
 use Rattle.predicate_semantics.specs.Lane as Lane
-use Rattle.predicate_semantics.specs.Standing.{standingLaneRun, standingScalarRun}
+use Rattle.predicate_semantics.specs.Standing.{lastInput, standingLaneRun, standingScalarRun}
 
 -- if the lane word is known, its lane k holds v
 abbrev pub Holds : ℕ → LaneWord → ℕ → Type 0
@@ -35,7 +36,7 @@ module _ (p : Program) (l : Setup) where
   -- has completed n steps too, and is where the lane is.
   abbrev pub PrefixGuarantee : Type 0
   PrefixGuarantee =
-      (n : ℕ) (s : LaneState) → Lane.reached p l n ≡ passed s
+      (n : ℕ) (s : LaneState) → Lane.reached p l n ≡ some s
       → (k input : ℕ) → getElem? (l .inputs) k ≡ some input
       → (others : ℕ → ℕ) → (t : ScalarState) × (Scalar.reached p n input others ≡ some t) × Follows k s t
 
@@ -64,5 +65,5 @@ abbrev pub Guarantee : Type 0
 Guarantee =
     (image : List ℕ) (symbols : Rv32SymbolLayout) (rows entries : ℕ) (r : Result)
     → (standingLaneRun image symbols rows entries) .answer ≡ passed r
-    → (input : ℕ) → 6 ≤ input → input ≤ 255
+    → (input : ℕ) → firstInput ≤ input → input ≤ lastInput
     → (others : ℕ → ℕ) → standingScalarRun image symbols input others ≡ some r

@@ -1,5 +1,6 @@
 -- The lane run (document 01, "Control step"): the scalar run's text over all inputs at once, with the tests that lanes and lent space add.
 use mathlib.Core.Bool.{_&&_}
+use mathlib.Core.Option.{Option, none, some}
 use mathlib.Core.List.{List, [], _∷_, _++_}
 use Prim.Native.Nat.{ℕ, zero, suc, _+_, _*_, _%_}
 use lib.Dec.{leb, ltb, eqb}
@@ -13,10 +14,10 @@ use Rattle.predicate_semantics.specs.declared.CompiledMmioEvent.{Compile
 use Rattle.predicate_semantics.specs.declared.PredicateTransducerExecution.{PredicateTransducerExecution}
 use Rattle.predicate_semantics.specs.Choice.{choose}
 use Rattle.predicate_semantics.specs.Meaning.{Operand, register, immediate, Meaning, nothing, literal, compute, jump, jumpTo, branch, load, store, meaning}
-use Rattle.predicate_semantics.specs.Program.{Core, Program, memoryEnd, stop, stopWord, stackPointer, imageEnd, sized, placed}
+use Rattle.predicate_semantics.specs.Program.{Core, Program, memoryEnd, stop, stopWord, stackPointer, maxEvents, imageEnd, sized, placed}
 use Rattle.predicate_semantics.specs.State.{State, Result, Effect, goes, sets, stores, Looked, fill, atStart, apply}
 use Rattle.predicate_semantics.specs.Memory.{Written, LaneBytes, laneBytes, read, write}
-use Rattle.predicate_semantics.specs.Refusal.{Tested, passed, refused, _>>=_, refuse, require, found}
+use Rattle.predicate_semantics.specs.Refusal.{Tested, passed, refused, _>>=_, ifPassed, refuse, require, found}
 
 -- registers are lane words, memory the written bytes over the image and zeros
 abbrev pub LaneState : Type 0
@@ -33,9 +34,9 @@ pub record Ended : Type 0 where
   pub state : LaneState
   pub answer : Tested Result
 
--- "Uniform" is tested so: unknown first (6), then unequal (7)
-unfoldable pub uniform : ℕ → LaneWord → Tested ℕ
-uniform role w =
+-- every uniform test of the run, unknown first (6), then unequal (7): the value that all its lanes agree on
+unfoldable pub agreed : ℕ → LaneWord → Tested ℕ
+agreed role w =
     choose (w .known)
     (λ _. choose (every (getD (w .values) 0 0) (w .values)) (λ _. passed (getD (w .values) 0 0)) (λ _. refuse 7 role))
     (λ _. refuse 6 role)
@@ -52,10 +53,6 @@ on s (passed t) f = f t
 on s (refused r) f = record { state = s; answer = refused r }
 
 module _ (inputs : List ℕ) where
-  -- every uniform test of the run: what all its lanes agree on
-  unfoldable pub agreed : ℕ → LaneWord → Tested ℕ
-  agreed role w = uniform role w
-
   -- a load: range, then the bytes, written ones too
   unfoldable pub access : LaneBytes → ℕ → ℕ → Tested LaneWord
   access memory n a = do
@@ -113,18 +110,18 @@ module _ (p : Program) (l : Setup) where
   execute s next (compute rd f a b) = passed (sets rd (binary f (reg s a) (operand s b)) next)
   execute s next (jump rd to) = passed (sets rd (constant lanes next) to)
   execute s next (jumpTo rd a offset) = do
-    to ← agreed (l .inputs) 2 (unary (λ v. target v offset) (reg s a))
+    to ← agreed 2 (unary (λ v. target v offset) (reg s a))
     _ ← require 10 (ltb 0 to)
     passed (sets rd (constant lanes next) to)
   execute s next (branch f a b to) = do
-    direction ← agreed (l .inputs) 5 (binary f (reg s a) (reg s b))
+    direction ← agreed 5 (binary f (reg s a) (reg s b))
     passed (goes (choose (eqb direction 0) (λ _. next) (λ _. to)))
   execute s next (load rd a offset n extend) = do
-    address ← agreed (l .inputs) 3 (unary (λ v. add v offset) (reg s a))
+    address ← agreed 3 (unary (λ v. add v offset) (reg s a))
     w ← access (l .inputs) (memoryOf s) n address
     passed (sets rd (unary extend w) next)
   execute s next (store a b offset n) = do
-    address ← agreed (l .inputs) 4 (unary (λ v. add v offset) (reg s a))
+    address ← agreed 4 (unary (λ v. add v offset) (reg s a))
     _ ← inside address n
     _ ← require 11 (leb (imageEnd p) address)
     _ ← require 13 (leb (length (write (s .memory) n address (reg s b))) (l .rows))
@@ -157,9 +154,9 @@ module _ (p : Program) (l : Setup) where
   -- "At stop: return value (x10), event count, refusal 12, then each event's operation, offset, value"
   unfoldable pub finish : LaneState → Tested Result
   finish s = do
-    returnValue ← agreed (l .inputs) 6 (reg s 10)
+    returnValue ← agreed 6 (reg s 10)
     count ← accessAgreed (l .inputs) 7 (memoryOf s) 4 (p .symbols .«event_count»)
-    _ ← require 12 (leb count 32 && eqb count (length (s .locations)))
+    _ ← require 12 (leb count maxEvents && eqb count (length (s .locations)))
     es ← events (memoryOf s) 0 [] (s .locations)
     passed (record { returnValue = returnValue; steps = s .steps; trace = s .trace; events = es })
 
@@ -172,10 +169,10 @@ module _ (p : Program) (l : Setup) where
       (λ _. record { state = s; answer = finish s })
       (λ _. on s (step s) (λ t. run n t))
 
-  -- the state after n completed steps, none of them at stop; 0 stands for a run that ended before
-  unfoldable pub after : ℕ → LaneState → Tested LaneState
-  after zero s = passed s
-  after (suc n) s = choose (eqb (s .pc) stop) (λ _. refuse 0 0) (λ _. step s >>= λ t. after n t)
+  -- the state after n completed steps, none of them at stop; none where the run ends before
+  unfoldable pub after : ℕ → LaneState → Option LaneState
+  after zero s = some s
+  after (suc n) s = choose (eqb (s .pc) stop) (λ _. none) (λ _. ifPassed (step s) (λ t. after n t))
 
   -- "x0 = 0, x1 = stop, x2 = 801FFFF0, x10 = the input; the rest are unknown"; the stop word counts as four written bytes
   unfoldable pub begin : LaneState
@@ -202,8 +199,8 @@ module _ (p : Program) (l : Setup) where
   laneRun limit = on begin start (λ s. run limit s)
 
   -- the state that the run is in after n completed steps
-  unfoldable pub reached : ℕ → Tested LaneState
-  reached n = start >>= λ s. after n s
+  unfoldable pub reached : ℕ → Option LaneState
+  reached n = ifPassed start (λ s. after n s)
 
   -- "distinct written bytes, stop's included"
   unfoldable pub writtenBytes : LaneState → ℕ

@@ -1,5 +1,5 @@
 -- What both runs are fed with: an image, its symbols and the core that runs them; and memory as it starts (document 01, "Written byte").
-use mathlib.Core.Bool.{Bool, _&&_}
+use mathlib.Core.Bool.{Bool, _&&_, cond}
 use mathlib.Core.Option.{Option}
 use mathlib.Core.List.{List}
 use Prim.Native.Nat.{ℕ, _+_, _-_}
@@ -37,9 +37,13 @@ stopWord = 0x00100073
 abbrev pub stackPointer : ℕ
 stackPointer = 0x801FFFF0
 
--- the byte that memory starts with at an address: the image's, then zeros
+-- the most events that a run may leave
+abbrev pub maxEvents : ℕ
+maxEvents = 32
+
+-- the byte that memory starts with at an address: the image's, then zeros; 0 below memory too
 unfoldable pub initial : List ℕ → ℕ → ℕ
-initial image a = getD image (a - imageBase) 0
+initial image a = cond (ltb a imageBase) 0 (getD image (a - imageBase) 0)
 
 -- the address past the image's last byte
 abbrev pub imageEnd : Program → ℕ

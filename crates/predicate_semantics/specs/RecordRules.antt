@@ -10,7 +10,7 @@ use lib.ListN.{length}
 use Rattle.riscv32imc.specs.Constants.{maxMemoryBytes}
 use Rattle.predicate_semantics.specs.declared.PredicateControlStep.{PredicateControlStep}
 use Rattle.predicate_semantics.specs.declared.Rv32SymbolLayout.{Rv32SymbolLayout}
-use Rattle.predicate_semantics.specs.Program.{Core, Program, stop}
+use Rattle.predicate_semantics.specs.Program.{Core, Program, stop, maxEvents}
 use Rattle.predicate_semantics.specs.State.{Result}
 use Rattle.predicate_semantics.specs.Refusal.{Refusal, passed}
 use Rattle.predicate_semantics.specs.Lane.{LaneState, Setup}
@@ -51,7 +51,7 @@ pub record Accepted (l : Setup) (s : LaneState) (r : Result) : Type 0 where
   -- "the last equal to stop"
   pub arrived : s .pc ≡ stop
   -- "at most 32 events"
-  pub events : length (r .events) ≤ 32
+  pub events : length (r .events) ≤ maxEvents
   -- "written bytes 4 to 2,097,151": stop's four are written, and none of the image's; each has a row
   pub written-least : 4 ≤ length (s .memory)
   pub written-most : length (s .memory) < maxMemoryBytes

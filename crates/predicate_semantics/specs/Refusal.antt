@@ -19,6 +19,11 @@ unfoldable pub _>>=_ : {A B : Type 0} → Tested A → (A → Tested B) → Test
 _>>=_ (passed a) f = f a
 _>>=_ (refused r) f = refused r
 
+-- .. and what is asked of it alone has no answer then
+unfoldable pub ifPassed : {A B : Type 0} → Tested A → (A → Option B) → Option B
+ifPassed (passed a) f = f a
+ifPassed (refused r) f = none
+
 -- a refusal by its number and role
 unfoldable pub refuse : {A : Type 0} → ℕ → ℕ → Tested A
 refuse number role = refused (record { number = number; role = role })

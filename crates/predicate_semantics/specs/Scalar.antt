@@ -12,7 +12,7 @@ use Rattle.riscv_decode.specs.declared.Fetched.{Fetched}
 use Rattle.predicate_semantics.specs.declared.CompiledMmioEvent.{CompiledMmioEvent}
 use Rattle.predicate_semantics.specs.Choice.{choose}
 use Rattle.predicate_semantics.specs.Meaning.{Operand, register, immediate, Meaning, nothing, literal, compute, jump, jumpTo, branch, load, store, meaning}
-use Rattle.predicate_semantics.specs.Program.{Program, memoryEnd, stop, stopWord, stackPointer, initial, imageEnd, sized, placed}
+use Rattle.predicate_semantics.specs.Program.{Program, memoryEnd, stop, stopWord, stackPointer, maxEvents, initial, imageEnd, sized, placed}
 use Rattle.predicate_semantics.specs.State.{State, Result, Effect, goes, sets, stores, Looked, fill, atStart, apply}
 
 -- a byte for each address
@@ -135,7 +135,7 @@ module _ (p : Program) where
   unfoldable pub finish : ScalarState → Option Result
   finish s = do
     count ← access (s .memory) 4 (p .symbols .«event_count»)
-    _ ← require (leb count 32 && eqb count (length (s .locations)))
+    _ ← require (leb count maxEvents && eqb count (length (s .locations)))
     es ← events (s .memory) 0 [] (s .locations)
     some (record { returnValue = reg s 10; steps = s .steps; trace = s .trace; events = es })
 

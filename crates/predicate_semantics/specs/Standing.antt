@@ -1,7 +1,7 @@
 -- The standing instance, that of document 01: the manual's table, 32 registers, inputs 6 to 255, at most 1,000,000 steps.
 use mathlib.Core.Option.{Option, none, some}
 use mathlib.Core.List.{List}
-use Prim.Native.Nat.{ℕ}
+use Prim.Native.Nat.{ℕ, _+_, _-_}
 use Rattle.riscv32imc.specs.Constants.{maxSteps}
 use Rattle.riscv32imc.specs.declared.compressed.Expanded.{Expanded}
 use Rattle.riscv32imc.specs.declared.compressed.Expanded.the-variants.{Word}
@@ -10,7 +10,7 @@ use Rattle.riscv_decode.specs.declared.Operation.{Operation}
 use Rattle.riscv_decode.specs.declared.Decoded.{Decoded}
 use Rattle.riscv_decode.specs.declared.Decoded.the-variants.{Known}
 use Rattle.riscv_decode.specs.Decode.{decodeOf}
-use Rattle.lane_word.specs.Word.{inputs}
+use Rattle.lane_word.specs.Word.{firstInput, lanes, inputs}
 use Rattle.predicate_semantics.specs.declared.Rv32SymbolLayout.{Rv32SymbolLayout}
 use Rattle.predicate_semantics.specs.Program.{Core, Program}
 use Rattle.predicate_semantics.specs.State.{Result}
@@ -35,9 +35,13 @@ standingCore = record { expand = λ h. expandedWord (expand h); decode = λ step
 unfoldable pub standing : List ℕ → Rv32SymbolLayout → Program
 standing image symbols = record { core = standingCore; image = image; symbols = symbols }
 
--- lane k belongs to input 6 + k, for 250 lanes
+-- the last lane's
+abbrev pub lastInput : ℕ
+lastInput = firstInput + lanes - 1
+
+-- lane k belongs to input firstInput + k
 unfoldable pub setup : ℕ → ℕ → Setup
-setup rows entries = record { inputs = inputs 6 250; rows = rows; entries = entries }
+setup rows entries = record { inputs = inputs firstInput lanes; rows = rows; entries = entries }
 
 -- the lane run of an image with its symbols, with so many rows and trace entries lent
 unfoldable pub standingLaneRun : List ℕ → Rv32SymbolLayout → ℕ → ℕ → Ended

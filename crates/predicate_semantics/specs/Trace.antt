@@ -1,16 +1,20 @@
--- A trace's bytes (document 01, "Who causes a refusal"): entries of 13 bytes, each as the body of a record's item 03.
+-- A trace's bytes (document 01, "Who causes a refusal"): one entry a step, each as the body of a record's item 03.
 use mathlib.Core.Bool.{cond}
 use mathlib.Core.List.{List, [], _∷_, map}
 use Prim.Native.Nat.{ℕ, _+_}
 use lib.Dec.{leb}
 use lib.ListN.{getD, length}
 use lib.Seq.{sets}
-use Rattle.little_endian.specs.Pack.{pack, packs, unpacks}
+use Rattle.little_endian.specs.Pack.{total, pack, packs, unpacks}
 use Rattle.predicate_semantics.specs.declared.PredicateControlStep.{PredicateControlStep}
 
 -- the control step (4, 4, 1, 4): program counter, word after expansion, length, next program counter
 abbrev pub stepWidths : List ℕ
 stepWidths = 4 ∷ 4 ∷ 1 ∷ 4 ∷ []
+
+-- the bytes of an entry
+abbrev pub entryBytes : ℕ
+entryBytes = total stepWidths
 
 -- a step as its four numbers, and back
 abbrev pub stepValues : PredicateControlStep → List ℕ
@@ -35,4 +39,4 @@ stepsAt p n bs = map stepOf (unpacks p stepWidths n bs)
 
 -- a step's entry at a place of lent bytes; one that does not lie inside is not written
 unfoldable pub putEntry : List ℕ → ℕ → PredicateControlStep → List ℕ
-putEntry bs at s = cond (leb (at + 13) (length bs)) (sets bs at (pack stepWidths (stepValues s))) bs
+putEntry bs at s = cond (leb (at + entryBytes) (length bs)) (sets bs at (pack stepWidths (stepValues s))) bs

@@ -38,14 +38,17 @@ pub struct PredicateTransducerExecution {
     pub event_count: u8,
 }
 
+// The bytes of a step's entry in a trace: the widths of its four numbers.
+pub const ENTRY_BYTES: usize = 4 + 4 + 1 + 4;
+
 // A step as the body of a record's item 03, which is an entry of a trace; where it does not lie inside, nothing is written.
 pub fn put_entry(s: &mut [u8], at: usize, step: PredicateControlStep)
     ensures { λ r. ⌜ now (s .exit) ≡ putEntry (now (s .entry)) at step ⌝ }
 {
-    if s.len() < 13 {
+    if s.len() < ENTRY_BYTES {
         return;
     }
-    if s.len() - 13 < at {
+    if s.len() - ENTRY_BYTES < at {
         return;
     }
     put_u32(s, at, step.program_counter);

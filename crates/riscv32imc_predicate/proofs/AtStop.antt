@@ -154,7 +154,7 @@ module _ (p : Program) (l : Setup) (s : LaneState) (value count : ℕ) where
 module _ (p : Program) (l : Setup) (s : LaneState) (image rows : List ℕ) (x10 : LaneWord) (at : ℕ)
     (a : l .inputs ≡ inputs firstInput lanes) (b : p .symbols .«event_count» ≡ at) (m : memoryOf p l s ≡ seen image rows) (x : reg p l s 10 ≡ x10) where
   abbrev asked : List ℕ → LaneWord → LaneBytes → ℕ → Tested Result
-  asked ins w memory n = agreed ins 6 w >>= λ value. accessAgreed ins 7 memory 4 n >>= λ count. finishEvents p l s value count
+  asked ins w memory n = agreed 6 w >>= λ value. accessAgreed ins 7 memory 4 n >>= λ count. finishEvents p l s value count
 
   numbers : finish p l s ≡ asked (inputs firstInput lanes) x10 (seen image rows) at
   unfolding finish finishEvents
@@ -164,11 +164,11 @@ module _ (p : Program) (l : Setup) (s : LaneState) (image rows : List ℕ) (x10 
       ∙ ap (λ (y : LaneBytes). asked (inputs firstInput lanes) x10 y (p .symbols .«event_count»)) m
       ∙ ap (asked (inputs firstInput lanes) x10 (seen image rows)) b
 
-  pub return-refused : (q : Refusal) → agreed (inputs firstInput lanes) 6 x10 ≡ refused q → finish p l s ≡ refused q
+  pub return-refused : (q : Refusal) → agreed 6 x10 ≡ refused q → finish p l s ≡ refused q
   unfolding _>>=_
   return-refused q e = numbers ∙ rw e
 
-  module _ (value : ℕ) (e : agreed (inputs firstInput lanes) 6 x10 ≡ passed value) where
+  module _ (value : ℕ) (e : agreed 6 x10 ≡ passed value) where
     pub count-refused : (q : Refusal) → accessAgreed (inputs firstInput lanes) 7 (seen image rows) 4 at ≡ refused q → finish p l s ≡ refused q
     unfolding _>>=_
     count-refused q f = numbers ∙ rw (e, f)

@@ -35,13 +35,13 @@ verdict-is e h = sym h ∙ ap verdictOf e
 
 -- a uniform test of a computed word, by what is told of it
 pub tested-both : (role : ℕ) (u : Uniform) (f : ℕ → ℕ → ℕ) (left right : LaneWord) → u ≡ uniformOf (binary f left right)
-    → testedAs role u ≡ agreed (inputs Word.firstInput Word.lanes) role (binary f left right)
+    → testedAs role u ≡ agreed role (binary f left right)
 tested-both role u f left right h = ap (testedAs role) h ∙ sym (agreed-is role (binary f left right))
 
 pub tested-number : (role : ℕ) (u : Uniform) (f : ℕ → ℕ → ℕ) (n : ℕ) (left : LaneWord) → length (left .values) ≡ Word.lanes
-    → u ≡ uniformOf (binary f left (constant Word.lanes n)) → testedAs role u ≡ agreed (inputs Word.firstInput Word.lanes) role (unary (λ v. f v n) left)
+    → u ≡ uniformOf (binary f left (constant Word.lanes n)) → testedAs role u ≡ agreed role (unary (λ v. f v n) left)
 tested-number role u f n left e h =
-    tested-both role u f left (constant Word.lanes n) h ∙ ap (agreed (inputs Word.firstInput Word.lanes) role) (binary-constant f Word.lanes n left e)
+    tested-both role u f left (constant Word.lanes n) h ∙ ap (agreed role) (binary-constant f Word.lanes n left e)
 
 -- a store takes at most a row for each of its bytes
 new-one : (f : Found) → newAt f ≤ 1
@@ -96,12 +96,12 @@ module _ {p : Program} {l : Setup} {s : LaneState} {image rows : List ℕ} {writ
     immediate-is rd f n = rw (x, lane-count)
 
     -- the rest of a form follows what its lanes agree on
-    pub jump-to-is : (rd offset : ℕ) (t : Tested ℕ) → t ≡ agreed (inputs Word.firstInput Word.lanes) 2 (unary (λ v. target v offset) left)
+    pub jump-to-is : (rd offset : ℕ) (t : Tested ℕ) → t ≡ agreed 2 (unary (λ v. target v offset) left)
         → execute p l s next (meaning.jumpTo rd a offset) ≡ (t >>= λ to. require 10 (ltb 0 to) >>= λ _. passed (sets rd (constant Word.lanes next) to))
     unfolding execute
-    jump-to-is rd offset t e = rw (e, x, lane-count, g .lanes)
+    jump-to-is rd offset t e = rw (e, x, lane-count)
 
-    pub load-is : (rd offset n : ℕ) (f : ℕ → ℕ) (t : Tested ℕ) → t ≡ agreed (inputs Word.firstInput Word.lanes) 3 (unary (λ v. add v offset) left)
+    pub load-is : (rd offset n : ℕ) (f : ℕ → ℕ) (t : Tested ℕ) → t ≡ agreed 3 (unary (λ v. add v offset) left)
         → execute p l s next (meaning.load rd a offset n f)
         ≡ (t >>= λ address. access (inputs Word.firstInput Word.lanes) (seen image rows) n address >>= λ w. passed (sets rd (unary f w) next))
     unfolding execute
@@ -112,13 +112,13 @@ module _ {p : Program} {l : Setup} {s : LaneState} {image rows : List ℕ} {writ
       unfolding execute operand
       compute-is rd f = rw (x, y)
 
-      pub branch-is : (f : ℕ → ℕ → ℕ) (to : ℕ) (t : Tested ℕ) → t ≡ agreed (inputs Word.firstInput Word.lanes) 5 (binary f left right)
+      pub branch-is : (f : ℕ → ℕ → ℕ) (to : ℕ) (t : Tested ℕ) → t ≡ agreed 5 (binary f left right)
           → execute p l s next (meaning.branch f a b to) ≡ (t >>= λ direction. passed (goes (choose (eqb direction 0) (λ _. next) (λ _. to))))
       unfolding execute
-      branch-is f to t e = rw (e, x, y, g .lanes)
+      branch-is f to t e = rw (e, x, y)
 
-      pub store-is : (offset n : ℕ) (t : Tested ℕ) → t ≡ agreed (inputs Word.firstInput Word.lanes) 4 (unary (λ v. add v offset) left)
+      pub store-is : (offset n : ℕ) (t : Tested ℕ) → t ≡ agreed 4 (unary (λ v. add v offset) left)
           → execute p l s next (meaning.store a b offset n)
           ≡ (t >>= λ address. roomFor address n (length image) rows written >>= λ _. passed (stores address n right next))
       unfolding execute
-      store-is offset n t e = rw (x, y, g .lanes, ← e) (after-address right n t)
+      store-is offset n t e = rw (x, y, ← e) (after-address right n t)

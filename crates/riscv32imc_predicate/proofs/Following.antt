@@ -1,6 +1,7 @@
 -- The code's place, rows and trace follow the semantics' states: one law for every step that is completed. Assumes nothing.
 use mathlib.Core.Path.{_≡_, refl, sym, ap, _∙_, subst}
 use mathlib.Core.Bool.{Bool, true, false}
+use mathlib.Core.Option.{some}
 use mathlib.Core.List.{List, [], _∷_, _++_, map}
 use Prim.Native.Nat.{ℕ, zero, suc, _+_, _-_, _*_, _/_, _%_, _^_, _≤_, _<_}
 use native.Mathlib.Nat.{mod-eq-of-lt}
@@ -177,8 +178,8 @@ module _ (image : List ℕ) (symbols : Rv32SymbolLayout) (n : ℕ) (lent : List 
           unfolding advance
           next-steps = ap (λ (x : LaneState). x .steps) e
 
-          next-reached : Lane.reached p l (u .steps) ≡ passed u
-          next-reached = subst (λ (x : ℕ). Lane.reached p l x ≡ passed u) (sym next-steps) (reached-next p l (s .steps) s u (t .reached) moving q)
+          next-reached : Lane.reached p l (u .steps) ≡ some u
+          next-reached = subst (λ (x : ℕ). Lane.reached p l x ≡ some u) (sym next-steps) (reached-next p l (s .steps) s u (t .reached) moving q)
 
           next-kept : Kept p l u
           next-kept = kept-reached p l (u .steps) u next-reached

@@ -22,7 +22,7 @@ use Rattle.predicate_semantics.specs.Choice.{choose}
 use Rattle.predicate_semantics.specs.Program.{stop, stopWord, sized, placed, inMemory}
 use Rattle.predicate_semantics.specs.State.{Result}
 use Rattle.predicate_semantics.specs.Memory.{put, write}
-use Rattle.predicate_semantics.specs.Refusal.{Refusal, Tested, passed, refused, _>>=_, refuse, require}
+use Rattle.predicate_semantics.specs.Refusal.{Refusal, Tested, passed, refused, _>>=_, ifPassed, refuse, require}
 use Rattle.predicate_semantics.specs.Lane.{LaneState, Ended, lanes, on, run, after, begin, start, laneRun, reached, laneOperations, writtenBytes, execution, finish}
 use Rattle.predicate_semantics.specs.Standing.{standing, setup, standingLaneRun}
 use Rattle.predicate_semantics.specs.Blank.{noExecution, noEvents}
@@ -148,7 +148,7 @@ module _ (image : List ℕ) (symbols : Rv32SymbolLayout) (n : ℕ) (lent : List 
     pub begin-tracks : (rows : List ℕ) → Holds rows n []
         → Tracks image symbols n lent (startPlace (symbols .entry)) (storeValues rows 4 stop stopWord) lent
         (begin (program image symbols n lent) (space image symbols n lent))
-    unfolding begin standing setup lanes reached after _>>=_
+    unfolding begin standing setup lanes reached after ifPassed
     begin-tracks rows k = record {
       reached = rw started;
       same-pc = refl;

@@ -1,5 +1,6 @@
 -- How the code's values follow a state of the semantics' run.
 use mathlib.Core.Bool.{Bool, true, false, _&&_}
+use mathlib.Core.Option.{some}
 use mathlib.Core.List.{List, [], _∷_, _++_}
 use mathlib.Core.Path.{_≡_}
 use Prim.Native.Nat.{ℕ, suc, _+_, _-_, _*_, _/_, _%_, _^_, _≤_, _<_}
@@ -61,7 +62,7 @@ module _ (image : List ℕ) (symbols : Rv32SymbolLayout) (n : ℕ) (lent : List 
 
   -- a place, rows and trace are those of a state that the run reaches
   pub record Tracks (place : Place) (rows trace : List ℕ) (s : LaneState) : Type 0 where
-    pub reached : Lane.reached program space (s .steps) ≡ passed s
+    pub reached : Lane.reached program space (s .steps) ≡ some s
     pub same-pc : place .pc ≡ s .pc
     pub same-steps : place .steps ≡ s .steps
     pub bounded : s .steps ≤ maxSteps

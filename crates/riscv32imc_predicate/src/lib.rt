@@ -20,7 +20,7 @@ const STOP: u32 = 0x801F_FFFC;
 const STOP_WORD: u32 = 0x0010_0073;
 
 // Bytes of a trace entry.
-pub const ENTRY_BYTES: usize = 13;
+pub const ENTRY_BYTES: usize = predicate_semantics::ENTRY_BYTES;
 
 // What an operation changes: a register, with one value for all lanes, with the word that is computed or with loaded lanes; bytes; or nothing.
 enum Change {

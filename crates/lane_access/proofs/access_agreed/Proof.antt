@@ -1,7 +1,6 @@
 use mathlib.Core.Path.{sym, ap, _∙_}
 use borrow.Author.Needs.{needs}
 use denote.Ref.{now}
-use Rattle.lane_word.specs.Word.{inputs, firstInput, lanes}
 use Rattle.predicate_semantics.specs.Lane.{agreed}
 use Rattle.lane_access.specs.Seen.{seen}
 use Rattle.lane_access.specs.Answers.{roleOf}
@@ -24,7 +23,7 @@ access-agreed-spec =
     let a = k .before .before .before .args in
     let h = rw (c .before .loading .given .1) at (loads _ _ _ _ (k .load .result) (k .load .ensures)) in
     sym (agreed-inside (seen (now (a .image)) (now (a .rows))) (a .width) (a .address) (roleOf (a .role)) (h .0)
-    ∙ ap (agreed (inputs firstInput lanes) (roleOf (a .role))) (h .1) ∙ agreed-constant (roleOf (a .role)) _))
+    ∙ ap (agreed (roleOf (a .role))) (h .1) ∙ agreed-constant (roleOf (a .role)) _))
     (λ c.
     let k = c .before .before .before in
     let a = k .before .before .before .args in
@@ -36,6 +35,6 @@ access-agreed-spec =
     let a = k .before .before .before .args in
     let i = rw (t .enum-told .given .1) at (loads _ _ _ _ (k .load .result) (k .load .ensures)) in
     c .agree .ensures
-    ∙ ap (agreed (inputs firstInput lanes) (roleOf (a .role)))
+    ∙ ap (agreed (roleOf (a .role)))
     (accessed-word (seen (now (a .image)) (now (a .rows))) (a .width) (a .address) (x .access .result) (x .access .ensures) i)
     ∙ sym (agreed-inside (seen (now (a .image)) (now (a .rows))) (a .width) (a .address) (roleOf (a .role)) i)))
