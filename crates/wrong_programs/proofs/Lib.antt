@@ -1,0 +1,3 @@
+-- That none of the wrong programs meets the contracts.
+pub mod Right
+pub mod Table

@@ -1,0 +1,84 @@
+-- Each row of condition 3's table, by the runs of its inputs.
+use mathlib.Core.Path.{_≡_, refl, sym, ap, _∙_}
+use mathlib.Core.Bool.{true≢false}
+use mathlib.Core.Logic.{⊎-elim}
+use mathlib.Core.Option.{Option}
+use mathlib.Core.List.{List}
+use Prim.Native.Nat.{ℕ, _<_}
+use native.Mathlib.Omega.{arith}
+use lib.ListN.{getD}
+use Rattle.riscv32imc.specs.Bits as Bits
+use Rattle.riscv32imc.specs.Expansion as Expansion
+use Rattle.riscv_decode.specs.Listing as Listing
+use Rattle.riscv_decode.specs.Rows as Rows
+use Rattle.riscv_decode.specs.Decode as Decode
+use Rattle.lane_word.specs.Word as Word
+use Rattle.predicate_semantics.specs.Choice as Choice
+use Rattle.predicate_semantics.specs.Meaning as Meaning
+use Rattle.predicate_semantics.specs.Program as Program
+use Rattle.predicate_semantics.specs.State as State
+use Rattle.predicate_semantics.specs.Memory as Memory
+use Rattle.predicate_semantics.specs.Refusal as Refusal
+use Rattle.predicate_semantics.specs.Lane as Lane
+use Rattle.predicate_semantics.specs.Standing as Standing
+use Rattle.predicate_semantics.specs.Cases as Cases
+use Rattle.predicate_semantics.specs.declared.PredicateTransducerExecution.{PredicateTransducerExecution}
+use Rattle.lane_record.specs.Format.{Record}
+use Rattle.wrong_programs.specs.Inputs.{Input, returnsInput, returns1, returns0, jumpFirst, nopFirst, storesAtStop, storesBelow}
+use Rattle.wrong_programs.specs.Behaviours.{Seen, accepts, numbers, counted, noSpaceAtOnce}
+use Rattle.wrong_programs.specs.Refuted.{Refuted, RunRefuted, LibraryRefuted}
+use Rattle.wrong_programs.proofs.Right.{Right, Served, run-right, library-right}
+
+-- to unfold this is to unfold what its line names
+runs : Unit {0}
+unfolding Bits.signExtend Expansion.expand Expansion.quadrant1 Expansion.cLi Expansion.place Expansion.cArithmetic Expansion.cOperations Expansion.quadrant2 Expansion.cRegisters Listing.listing Listing.operation Listing.fixed Rows.maskOf Rows.matchOf Rows.rowsFrom Rows.standing Rows.findRow Decode.operationOf Decode.decodeWith Decode.decodeOf Word.unknown Word.constant Word.domain Word.zip Word.unary Word.binary Word.every Word.inputs Choice.choose Meaning.meaning Program.initial Program.sized Program.inMemory Program.placed State.fill State.atStart State.assign State.recorded State.advance State.apply Memory.byteAt Memory.laneBytes Memory.put Memory.read Memory.write Refusal._>>=_ Refusal.refuse Refusal.require Refusal.found Lane.uniform Lane.inside Lane.on Lane.lanes Lane.memoryOf Lane.agreed Lane.access Lane.accessAgreed Lane.fetchWord Lane.fetch Lane.reg Lane.operand Lane.execute Lane.look Lane.step Lane.events Lane.finish Lane.run Lane.begin Lane.start Lane.laneRun Lane.execution Lane.laneOperations Lane.writtenBytes Standing.expandedWord Standing.decodedOperation Standing.standingCore Standing.standing Standing.setup Standing.standingLaneRun Cases.symbols Cases.word Cases.half Cases.return1
+runs = tt
+
+abbrev written : Option Record → ℕ
+written q = (numbers q) .«sparse_memory_bytes»
+
+different : (n m : ℕ) → n ≡ m → n < m → ⊥
+different n m h k = omega (arith, h, k)
+
+module _ (Output : Type 0) (seen : Output → Seen) (Meets : Input → Output → Type 0)
+    (right : (x : Input) → Served x → (o : Output) → Meets x o → Right x (seen o)) where
+  refuted : Refuted Output seen Meets
+  unfolding runs
+  refuted = record {
+    input-6-copied = λ p b m. true≢false
+        (sym (b returnsInput _ refl) ∙ ap accepts (right returnsInput (refl, refl) _ m .recorded));
+    trace-invented = λ p b m n. different 0x13 0x67
+        (ap (λ (t : List ℕ). getD t 17 0)
+        (sym (right nopFirst (refl, refl) _ n .trace) ∙ sym (b jumpFirst nopFirst (refl, refl, refl, refl, refl) refl) ∙ right jumpFirst (refl, refl) _ m .trace))
+        (omega arith);
+    written-bytes-invented = λ p b m n.
+        let at-stop = right storesAtStop (refl, refl) _ m .recorded in
+        let below = right storesBelow (refl, refl) _ n .recorded in
+        different 4 8
+        (sym (ap written at-stop)
+        ∙ b storesAtStop storesBelow (refl, refl, refl, refl, refl)
+        (ap (λ (q : Option Record). counted (numbers q)) at-stop ∙ sym (ap (λ (q : Option Record). counted (numbers q)) below))
+        ∙ ap written below)
+        (omega arith);
+    space-left = λ p b m. true≢false
+        (sym (b returns1 (omega arith) (omega arith)) ∙ ap noSpaceAtOnce (right returns1 (refl, refl) _ m .recorded));
+    unchanging = λ p b m n. different 0 1
+        (ap (λ (q : Option Record). (numbers q) .«return_value»)
+        (sym (right returns0 (refl, refl) _ m .recorded) ∙ b returns0 returns1 ∙ right returns1 (refl, refl) _ n .recorded))
+        (omega arith);
+    each-image-refused = λ p b m. true≢false
+        (sym (ap accepts (right returns1 (refl, refl) _ m .recorded)) ∙ b returns1);
+    left-empty = λ p b m.
+        ⊎-elim
+        (λ t. different 0 0x80 (ap (λ (t : List ℕ). getD t 3 0) (sym t ∙ right returns1 (refl, refl) _ m .trace)) (omega arith))
+        (λ e. different 0 1
+        (ap (λ (x : PredicateTransducerExecution). x .«return_value») (sym e ∙ ap numbers (right returns1 (refl, refl) _ m .recorded)))
+        (omega arith))
+        (b returns1);
+  }
+
+pub run-refuted : RunRefuted
+run-refuted = refuted _ _ _ (λ x s. run-right x)
+
+pub library-refuted : LibraryRefuted
+library-refuted = refuted _ _ _ library-right

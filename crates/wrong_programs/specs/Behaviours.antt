@@ -1,0 +1,98 @@
+-- What condition 3's wrong programs do, over what is seen of a program at each input.
+use mathlib.Core.Path.{_≡_}
+use mathlib.Core.Bool.{Bool, true, false, _&&_, _||_}
+use mathlib.Core.Logic.{_⊎_}
+use mathlib.Core.List.{List, [], _∷_}
+use mathlib.Core.Option.{Option, none, some}
+use Prim.Native.Nat.{ℕ, _-_, _≤_}
+use lib.Dec.{eqb}
+use lib.ListN.{length, take, drop, replicate}
+use Rattle.riscv32imc.specs.Constants.{imageBase, maxSteps}
+use Rattle.lane_word.specs.Word.{firstInput, lanes}
+use Rattle.predicate_semantics.specs.declared.PredicateTransducerExecution.{PredicateTransducerExecution}
+use Rattle.predicate_semantics.specs.State.{Result}
+use Rattle.predicate_semantics.specs.Refusal.{passed}
+use Rattle.predicate_semantics.specs.Lane.{Ended, laneRun}
+use Rattle.predicate_semantics.specs.Standing.{standing}
+use Rattle.predicate_semantics.specs.Blank.{noExecution}
+use Rattle.lane_memory.specs.Rows.{rowCount}
+use Rattle.lane_record.specs.Format.{Record, accepted, refused}
+use Rattle.riscv32imc_predicate.specs.Tracking.{entryCount}
+use Rattle.lane_library.specs.Inputs.{symbolsIn, imageIn}
+use Rattle.wrong_programs.specs.Inputs.{Input}
+
+-- what is seen of a program at an input: the record, if there is one, and the lent trace afterwards
+pub record Seen : Type 0 where
+  pub recorded : Option Record
+  pub trace : List ℕ
+
+abbrev pub accepts : Option Record → Bool
+accepts none = false
+accepts (some (accepted e es ss)) = true
+accepts (some (refused f)) = false
+
+-- the numbers of an accepted run, else zeros
+abbrev pub numbers : Option Record → PredicateTransducerExecution
+numbers none = noExecution
+numbers (some (accepted e es ss)) = e
+numbers (some (refused f)) = noExecution
+
+-- return value, steps and number of events
+abbrev pub counted : PredicateTransducerExecution → List ℕ
+counted e = e .«return_value» ∷ e .«symbolic_transitions» ∷ e .«event_count» ∷ []
+
+-- 13 or 14 with no step completed
+abbrev pub noSpaceAtOnce : Option Record → Bool
+noSpaceAtOnce none = false
+noSpaceAtOnce (some (accepted e es ss)) = false
+noSpaceAtOnce (some (refused f)) = (eqb (f .number) 13 || eqb (f .number) 14) && eqb (f .steps) 0
+
+-- the lane run of 250 lanes that all hold input 6
+abbrev pub copied : Input → Ended
+copied x =
+    laneRun (standing (imageIn (x .bytes)) (symbolsIn (x .bytes)))
+    (record { inputs = replicate lanes firstInput; rows = rowCount (x .rows); entries = entryCount (x .trace) }) maxSteps
+
+-- the bytes at the entry, as many as an instruction can have
+abbrev pub firstInstruction : Input → List ℕ
+firstInstruction x = take 4 (drop ((symbolsIn (x .bytes)) .entry - imageBase) (imageIn (x .bytes)))
+
+-- the same symbols, as long an image, and the same lent memory
+abbrev pub Alike : Input → Input → Type 0
+Alike x y =
+    (symbolsIn (x .bytes) ≡ symbolsIn (y .bytes)) × (length (x .bytes) ≡ length (y .bytes))
+    × (x .rows ≡ y .rows) × (x .trace ≡ y .trace) × (x .output ≡ y .output)
+
+module _ (program : Input → Seen) where
+  -- 1. "a run of input 6 copied to 250 entries": it accepts what 250 lanes of input 6 pass
+  abbrev pub CopiesInput6 : Type 0
+  CopiesInput6 = (x : Input) (r : Result) → (copied x) .answer ≡ passed r → accepts ((program x) .recorded) ≡ true
+
+  -- 2. "executes the first instruction and invents the later trace": nothing of the image after that instruction tells in the trace
+  abbrev pub InventsLaterTrace : Type 0
+  InventsLaterTrace =
+      (x y : Input) → Alike x y → firstInstruction x ≡ firstInstruction y → (program x) .trace ≡ (program y) .trace
+
+  -- 3. "invented written-byte counts": runs that agree in the other numbers agree in this one, wherever they store
+  abbrev pub InventsWrittenBytes : Type 0
+  InventsWrittenBytes =
+      (x y : Input) → Alike x y
+      → counted (numbers ((program x) .recorded)) ≡ counted (numbers ((program y) .recorded))
+      → (numbers ((program x) .recorded)) .«sparse_memory_bytes» ≡ (numbers ((program y) .recorded)) .«sparse_memory_bytes»
+
+  -- 4. "13 or 14 before any step with space left": the stop word's rows are lent, and an entry
+  abbrev pub RefusesWithSpaceLeft : Type 0
+  RefusesWithSpaceLeft =
+      (x : Input) → 4 ≤ rowCount (x .rows) → 1 ≤ entryCount (x .trace) → noSpaceAtOnce ((program x) .recorded) ≡ true
+
+  -- 5. "an unchanging record"
+  abbrev pub NeverChanges : Type 0
+  NeverChanges = (x y : Input) → (program x) .recorded ≡ (program y) .recorded
+
+  -- 6. "one that refuses each image"
+  abbrev pub RefusesEachImage : Type 0
+  RefusesEachImage = (x : Input) → accepts ((program x) .recorded) ≡ false
+
+  -- 7. "one that leaves trace and record empty": either is enough
+  abbrev pub LeavesEmpty : Type 0
+  LeavesEmpty = (x : Input) → ((program x) .trace ≡ x .trace) ⊎ (numbers ((program x) .recorded) ≡ noExecution)

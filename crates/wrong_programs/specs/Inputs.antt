@@ -1,0 +1,58 @@
+-- The inputs at which the wrong programs are caught: small images, with as little lent as their runs need.
+use mathlib.Core.List.{List, [], _∷_, _++_}
+use Prim.Native.Nat.{ℕ, _*_}
+use lib.ListN.{replicate}
+use Rattle.little_endian.specs.Number.{bytes}
+use Rattle.little_endian.specs.Pack.{total}
+use Rattle.riscv32imc.specs.Constants.{imageBase}
+use Rattle.predicate_semantics.specs.declared.Rv32SymbolLayout.{Rv32SymbolLayout}
+use Rattle.predicate_semantics.specs.Cases.{symbols, word, half, return1}
+use Rattle.predicate_semantics.specs.Trace.{stepWidths}
+use Rattle.lane_memory.specs.Rows.{rowBytes}
+
+-- "entry, event count address, events address (4 bytes each), then the image"
+abbrev pub inputBytes : Rv32SymbolLayout → List ℕ → List ℕ
+inputBytes s image = bytes 4 (s .entry) ++ bytes 4 (s .«event_count») ++ bytes 4 (s .events) ++ image
+
+-- what a program is given: the bytes of symbols and image, and what is lent; the run itself takes no output
+pub record Input : Type 0 where
+  pub bytes : List ℕ
+  pub rows : List ℕ
+  pub trace : List ℕ
+  pub output : List ℕ
+
+-- an image at the example's symbols, with so many rows and entries and enough output lent, all zero
+abbrev pub given : List ℕ → ℕ → ℕ → Input
+given image rows entries =
+    record {
+      bytes = inputBytes (symbols imageBase) image;
+      rows = replicate (rows * rowBytes) 0;
+      trace = replicate (entries * total stepWidths) 0;
+      output = replicate 64 0;
+    }
+
+-- 82 80 (C.JR x1), which returns the input: refused with 7, role 6, after a step
+abbrev pub returnsInput : Input
+returnsInput = given (half 0x8082) 4 1
+
+-- 05 45 82 80 (C.LI x10, 1; C.JR x1), document 01's example
+abbrev pub returns1 : Input
+returns1 = given return1 4 2
+
+-- .. and with 0 in place of 1
+abbrev pub returns0 : Input
+returns0 = given (half 0x4501 ++ half 0x8082) 4 2
+
+-- ADDI x10, x0, 1, then C.JR x1 and a C.NOP that is not reached, or the C.NOP first
+abbrev pub jumpFirst : Input
+jumpFirst = given (word 0x00100513 ++ half 0x8082 ++ half 0x0001) 4 3
+
+abbrev pub nopFirst : Input
+nopFirst = given (word 0x00100513 ++ half 0x0001 ++ half 0x8082) 4 3
+
+-- SW x0, 12(x2) over the stop word, or SW x0, 8(x2) below it, then the example
+abbrev pub storesAtStop : Input
+storesAtStop = given (word 0x00012623 ++ return1) 8 3
+
+abbrev pub storesBelow : Input
+storesBelow = given (word 0x00012423 ++ return1) 8 3

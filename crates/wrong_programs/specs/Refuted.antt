@@ -1,0 +1,86 @@
+-- Condition 3 of document 01 as a table: each wrong program, and the inputs at which it breaks the contract; for the run and for the library.
+use mathlib.Core.List.{List, [], _∷_}
+use mathlib.Core.Option.{Option, none, some}
+use Prim.Native.Nat.{ℕ}
+use lib.ListN.{take}
+use Rattle.predicate_semantics.specs.declared.PredicateTransducerExecution.{PredicateTransducerExecution}
+use Rattle.predicate_semantics.specs.State.{Result}
+use Rattle.predicate_semantics.specs.Refusal.{Tested, passed}
+use Rattle.predicate_semantics.specs.Refusal as Refusal
+use Rattle.lane_record.specs.declared.WriteAnswer.{WriteAnswer}
+use Rattle.lane_record.specs.Format.{Record, accepted, refused}
+use Rattle.lane_record.specs.Decode.{decode}
+use Rattle.lane_record.specs.Answers.{Said, done, wrote, refuses, writeSaid}
+use Rattle.riscv32imc_predicate.specs.declared.PredicateRun.{PredicateRun}
+use Rattle.riscv32imc_predicate.specs.Outcome.{resultIn, Ran}
+use Rattle.lane_library.specs.Inputs.{symbolsIn, imageIn}
+use Rattle.lane_library.specs.Outcome.{LaneRuns}
+use Rattle.wrong_programs.specs.Inputs.{Input, returnsInput, returns1, returns0, jumpFirst, nopFirst, storesAtStop, storesBelow}
+use Rattle.wrong_programs.specs.Behaviours.{Seen, CopiesInput6, InventsLaterTrace, InventsWrittenBytes, RefusesWithSpaceLeft, NeverChanges, RefusesEachImage, LeavesEmpty}
+
+-- over what a program answers and leaves, what is seen of that, and the contract
+module _ (Output : Type 0) (seen : Output → Seen) (Meets : Input → Output → Type 0) where
+  -- it does not meet the contract at all of these inputs
+  abbrev pub FailsAt : (Input → Output) → List Input → Type 0
+  FailsAt program [] = ⊥
+  FailsAt program (x ∷ xs) = Meets x (program x) → FailsAt program xs
+
+  -- no program that behaves so does
+  abbrev pub Breaks : ((Input → Seen) → Type 0) → List Input → Type 0
+  Breaks Behaves inputs = (program : Input → Output) → Behaves (λ x. seen (program x)) → FailsAt program inputs
+
+  pub record Refuted : Type 0 where
+    pub input-6-copied : Breaks CopiesInput6 (returnsInput ∷ [])
+    pub trace-invented : Breaks InventsLaterTrace (jumpFirst ∷ nopFirst ∷ [])
+    pub written-bytes-invented : Breaks InventsWrittenBytes (storesAtStop ∷ storesBelow ∷ [])
+    pub space-left : Breaks RefusesWithSpaceLeft (returns1 ∷ [])
+    pub unchanging : Breaks NeverChanges (returns0 ∷ returns1 ∷ [])
+    pub each-image-refused : Breaks RefusesEachImage (returns1 ∷ [])
+    pub left-empty : Breaks LeavesEmpty (returns1 ∷ [])
+
+-- ---- the run, `execute_invalid_channel_predicate`
+
+pub record RunOutput : Type 0 where
+  pub run : PredicateRun
+  pub rows : List ℕ
+  pub trace : List ℕ
+
+-- the record of a result or a refusal, with the numbers and the completed steps beside it
+abbrev pub recordOf : PredicateTransducerExecution → ℕ → Tested Result → Record
+recordOf e n (passed r) = accepted e (r .events) (r .trace)
+recordOf e n (Refusal.refused q) = refused (record { number = q .number; role = q .role; steps = n })
+
+abbrev pub seenOfRun : RunOutput → Seen
+seenOfRun o = record {
+  recorded = some (recordOf (o .run .execution) (o .run .steps) (resultIn (o .run) (o .trace)));
+  trace = o .trace;
+}
+
+abbrev pub RunMeets : Input → RunOutput → Type 0
+RunMeets x o = Ran (imageIn (x .bytes)) (symbolsIn (x .bytes)) (x .rows) (x .trace) (o .run) (o .rows) (o .trace)
+
+abbrev pub RunRefuted : Type 0
+RunRefuted = Refuted RunOutput seenOfRun RunMeets
+
+-- ---- the library's `run_input`
+
+pub record LibraryOutput : Type 0 where
+  pub answer : WriteAnswer
+  pub rows : List ℕ
+  pub trace : List ℕ
+  pub output : List ℕ
+
+-- the record that the written bytes are
+abbrev pub written : Said → List ℕ → Option Record
+written (wrote n) output = decode (take n output)
+written done output = none
+written (refuses n) output = none
+
+abbrev pub seenOfLibrary : LibraryOutput → Seen
+seenOfLibrary o = record { recorded = written (writeSaid (o .answer)) (o .output); trace = o .trace }
+
+abbrev pub LibraryMeets : Input → LibraryOutput → Type 0
+LibraryMeets x o = LaneRuns (x .bytes) (x .rows) (x .trace) (x .output) (o .answer) (o .rows) (o .trace) (o .output)
+
+abbrev pub LibraryRefuted : Type 0
+LibraryRefuted = Refuted LibraryOutput seenOfLibrary LibraryMeets
