@@ -1,3 +1,4 @@
 -- That none of the wrong programs meets the contracts.
 pub mod Right
 pub mod Table
+pub mod Promise

@@ -64,9 +64,12 @@ Alike x y =
     × (x .rows ≡ y .rows) × (x .trace ≡ y .trace) × (x .output ≡ y .output)
 
 module _ (program : Input → Seen) where
+  abbrev pub AcceptsAt : Input → Type 0
+  AcceptsAt x = accepts ((program x) .recorded) ≡ true
+
   -- 1. "a run of input 6 copied to 250 entries": it accepts what 250 lanes of input 6 pass
   abbrev pub CopiesInput6 : Type 0
-  CopiesInput6 = (x : Input) (r : Result) → (copied x) .answer ≡ passed r → accepts ((program x) .recorded) ≡ true
+  CopiesInput6 = (x : Input) (r : Result) → (copied x) .answer ≡ passed r → AcceptsAt x
 
   -- 2. "executes the first instruction and invents the later trace": nothing of the image after that instruction tells in the trace
   abbrev pub InventsLaterTrace : Type 0

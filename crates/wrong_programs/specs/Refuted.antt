@@ -1,12 +1,15 @@
 -- Condition 3 of document 01 as a table: each wrong program, and the inputs at which it breaks the contract; for the run and for the library.
+use mathlib.Core.Path.{_≡_}
 use mathlib.Core.List.{List, [], _∷_}
 use mathlib.Core.Option.{Option, none, some}
-use Prim.Native.Nat.{ℕ}
+use Prim.Native.Nat.{ℕ, _≤_}
 use lib.ListN.{take}
+use Rattle.lane_word.specs.Word.{firstInput}
 use Rattle.predicate_semantics.specs.declared.PredicateTransducerExecution.{PredicateTransducerExecution}
 use Rattle.predicate_semantics.specs.State.{Result}
 use Rattle.predicate_semantics.specs.Refusal.{Tested, passed}
 use Rattle.predicate_semantics.specs.Refusal as Refusal
+use Rattle.predicate_semantics.specs.Standing.{standingScalarRun}
 use Rattle.lane_record.specs.declared.WriteAnswer.{WriteAnswer}
 use Rattle.lane_record.specs.Format.{Record, accepted, refused}
 use Rattle.lane_record.specs.Decode.{decode}
@@ -16,7 +19,7 @@ use Rattle.riscv32imc_predicate.specs.Outcome.{resultIn, Ran}
 use Rattle.lane_library.specs.Inputs.{symbolsIn, imageIn}
 use Rattle.lane_library.specs.Outcome.{LaneRuns}
 use Rattle.wrong_programs.specs.Inputs.{Input, returnsInput, returns1, returns0, jumpFirst, nopFirst, storesAtStop, storesBelow}
-use Rattle.wrong_programs.specs.Behaviours.{Seen, CopiesInput6, InventsLaterTrace, InventsWrittenBytes, RefusesWithSpaceLeft, NeverChanges, RefusesEachImage, LeavesEmpty}
+use Rattle.wrong_programs.specs.Behaviours.{Seen, AcceptsAt, CopiesInput6, InventsLaterTrace, InventsWrittenBytes, RefusesWithSpaceLeft, NeverChanges, RefusesEachImage, LeavesEmpty}
 
 -- over what a program answers and leaves, what is seen of that, and the contract
 module _ (Output : Type 0) (seen : Output → Seen) (Meets : Input → Output → Type 0) where
@@ -30,12 +33,19 @@ module _ (Output : Type 0) (seen : Output → Seen) (Meets : Input → Output �
   Breaks Behaves inputs = (program : Input → Output) → Behaves (λ x. seen (program x)) → FailsAt program inputs
 
   pub record Refuted : Type 0 where
+    -- 1
     pub input-6-copied : Breaks CopiesInput6 (returnsInput ∷ [])
+    -- 2
     pub trace-invented : Breaks InventsLaterTrace (jumpFirst ∷ nopFirst ∷ [])
+    -- 3
     pub written-bytes-invented : Breaks InventsWrittenBytes (storesAtStop ∷ storesBelow ∷ [])
+    -- 4
     pub space-left : Breaks RefusesWithSpaceLeft (returns1 ∷ [])
+    -- 5
     pub unchanging : Breaks NeverChanges (returns0 ∷ returns1 ∷ [])
+    -- 6
     pub each-image-refused : Breaks RefusesEachImage (returns1 ∷ [])
+    -- 7
     pub left-empty : Breaks LeavesEmpty (returns1 ∷ [])
 
 -- ---- the run, `execute_invalid_channel_predicate`
@@ -61,6 +71,24 @@ RunMeets x o = Ran (imageIn (x .bytes)) (symbolsIn (x .bytes)) (x .rows) (x .tra
 
 abbrev pub RunRefuted : Type 0
 RunRefuted = Refuted RunOutput seenOfRun RunMeets
+
+-- ---- the run's promise alone (demand 3): the three programs that condition 3 marks with it break it where they accept
+
+abbrev pub RunPromises : Input → RunOutput → Type 0
+RunPromises x o =
+    (result : Result) → resultIn (o .run) (o .trace) ≡ passed result
+    → (input : ℕ) → firstInput ≤ input → input ≤ 255
+    → (others : ℕ → ℕ) → standingScalarRun (imageIn (x .bytes)) (symbolsIn (x .bytes)) input others ≡ some result
+
+pub record PromiseRefuted : Type 0 where
+  pub promised : (x : Input) (o : RunOutput) → RunMeets x o → RunPromises x o
+  -- 1
+  pub input-6-copied : Breaks RunOutput seenOfRun RunPromises CopiesInput6 (returnsInput ∷ [])
+  -- 2
+  pub trace-invented :
+      Breaks RunOutput seenOfRun RunPromises (λ p. InventsLaterTrace p × AcceptsAt p jumpFirst × AcceptsAt p nopFirst) (jumpFirst ∷ nopFirst ∷ [])
+  -- 5
+  pub unchanging : Breaks RunOutput seenOfRun RunPromises (λ p. NeverChanges p × AcceptsAt p returns1) (returns0 ∷ returns1 ∷ [])
 
 -- ---- the library's `run_input`
 
