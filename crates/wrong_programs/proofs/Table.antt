@@ -2,7 +2,7 @@
 use mathlib.Core.Path.{_≡_, refl, sym, ap, _∙_}
 use mathlib.Core.Bool.{true≢false}
 use mathlib.Core.Logic.{⊎-elim}
-use mathlib.Core.Option.{Option}
+use mathlib.Core.Option.{Option, some}
 use mathlib.Core.List.{List}
 use Prim.Native.Nat.{ℕ, _<_}
 use native.Mathlib.Omega.{arith}
@@ -22,12 +22,13 @@ use Rattle.predicate_semantics.specs.Refusal as Refusal
 use Rattle.predicate_semantics.specs.Lane as Lane
 use Rattle.predicate_semantics.specs.Standing as Standing
 use Rattle.predicate_semantics.specs.Cases as Cases
+use Rattle.predicate_semantics.specs.declared.PredicateControlStep.{PredicateControlStep}
 use Rattle.predicate_semantics.specs.declared.PredicateTransducerExecution.{PredicateTransducerExecution}
 use Rattle.lane_record.specs.Format.{Record}
 use Rattle.wrong_programs.specs.Inputs.{Input, returnsInput, returns1, returns0, jumpFirst, nopFirst, storesAtStop, storesBelow}
-use Rattle.wrong_programs.specs.Behaviours.{Seen, accepts, numbers, counted, noSpaceAtOnce}
+use Rattle.wrong_programs.specs.Behaviours.{Seen, accepts, numbers, counted, noSpaceAtOnce, steps, Agree}
 use Rattle.wrong_programs.specs.Refuted.{Refuted, RunRefuted, LibraryRefuted}
-use Rattle.wrong_programs.proofs.Right.{Right, Served, run-right, library-right}
+use Rattle.wrong_programs.proofs.Right.{Right, recordAt, Served, run-right, library-right}
 
 -- to unfold this is to unfold what its line names
 unfoldable pub runs : Unit {0}
@@ -47,10 +48,11 @@ module _ (Output : Type 0) (seen : Output → Seen) (Meets : Input → Output �
   refuted = record {
     input-6-copied = λ p b m. true≢false
         (sym (b returnsInput _ refl) ∙ ap accepts (right returnsInput (refl, refl) _ m .recorded));
-    trace-invented = λ p b m n. different 0x13 0x67
-        (ap (λ (t : List ℕ). getD t 17 0)
-        (sym (right nopFirst (refl, refl) _ n .trace) ∙ sym (b jumpFirst nopFirst (refl, refl, refl, refl, refl) refl) ∙ right jumpFirst (refl, refl) _ m .trace))
-        (omega arith);
+    trace-invented = λ p b m n.
+        let same : Agree (steps (some (recordAt jumpFirst))) (steps (some (recordAt nopFirst))) =
+        rw (right jumpFirst (refl, refl) _ m .recorded, right nopFirst (refl, refl) _ n .recorded) at
+        (b jumpFirst nopFirst (refl, refl, refl, refl, refl) refl) in
+        different 0x13 0x8067 (ap (λ (s : PredicateControlStep). s .«instruction_word») (sym (same .1 .0))) (omega arith);
     written-bytes-invented = λ p b m n.
         let at-stop = right storesAtStop (refl, refl) _ m .recorded in
         let below = right storesBelow (refl, refl) _ n .recorded in

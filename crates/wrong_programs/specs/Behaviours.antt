@@ -9,6 +9,7 @@ use lib.Dec.{eqb}
 use lib.ListN.{length, take, drop, replicate}
 use Rattle.riscv32imc.specs.Constants.{imageBase, maxSteps}
 use Rattle.lane_word.specs.Word.{firstInput, lanes}
+use Rattle.predicate_semantics.specs.declared.PredicateControlStep.{PredicateControlStep}
 use Rattle.predicate_semantics.specs.declared.PredicateTransducerExecution.{PredicateTransducerExecution}
 use Rattle.predicate_semantics.specs.State.{Result}
 use Rattle.predicate_semantics.specs.Refusal.{passed}
@@ -36,6 +37,18 @@ abbrev pub numbers : Option Record → PredicateTransducerExecution
 numbers none = noExecution
 numbers (some (accepted e es ss)) = e
 numbers (some (refused f)) = noExecution
+
+-- its steps
+abbrev pub steps : Option Record → List PredicateControlStep
+steps none = []
+steps (some (accepted e es ss)) = ss
+steps (some (refused f)) = []
+
+-- the same steps, as far as both go
+abbrev pub Agree : List PredicateControlStep → List PredicateControlStep → Type 0
+Agree [] ts = Unit {0}
+Agree (s ∷ ss) [] = Unit {0}
+Agree (s ∷ ss) (t ∷ ts) = (s ≡ t) × Agree ss ts
 
 -- return value, steps and number of events
 abbrev pub counted : PredicateTransducerExecution → List ℕ
@@ -71,10 +84,11 @@ module _ (program : Input → Seen) where
   abbrev pub CopiesInput6 : Type 0
   CopiesInput6 = (x : Input) (r : Result) → (copied x) .answer ≡ passed r → AcceptsAt x
 
-  -- 2. "executes the first instruction and invents the later trace": nothing of the image after that instruction tells in the trace
+  -- 2. "executes the first instruction and invents the later trace": nothing of the image after that instruction tells in the steps
   abbrev pub InventsLaterTrace : Type 0
   InventsLaterTrace =
-      (x y : Input) → Alike x y → firstInstruction x ≡ firstInstruction y → (program x) .trace ≡ (program y) .trace
+      (x y : Input) → Alike x y → firstInstruction x ≡ firstInstruction y
+      → Agree (steps ((program x) .recorded)) (steps ((program y) .recorded))
 
   -- 3. "invented written-byte counts": runs that agree in the other numbers agree in this one, wherever they store
   abbrev pub InventsWrittenBytes : Type 0

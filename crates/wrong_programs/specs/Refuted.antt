@@ -33,19 +33,19 @@ module _ (Output : Type 0) (seen : Output → Seen) (Meets : Input → Output �
   Breaks Behaves inputs = (program : Input → Output) → Behaves (λ x. seen (program x)) → FailsAt program inputs
 
   pub record Refuted : Type 0 where
-    -- 1
+    -- 1. 82 80, which returns the input
     pub input-6-copied : Breaks CopiesInput6 (returnsInput ∷ [])
-    -- 2
+    -- 2. two images that part after their first instruction
     pub trace-invented : Breaks InventsLaterTrace (jumpFirst ∷ nopFirst ∷ [])
-    -- 3
+    -- 3. a store over the stop word, and one beside it
     pub written-bytes-invented : Breaks InventsWrittenBytes (storesAtStop ∷ storesBelow ∷ [])
-    -- 4
+    -- 4. the example, with four rows and an entry for each step
     pub space-left : Breaks RefusesWithSpaceLeft (returns1 ∷ [])
-    -- 5
+    -- 5. images that return 0 and 1
     pub unchanging : Breaks NeverChanges (returns0 ∷ returns1 ∷ [])
-    -- 6
+    -- 6. the example
     pub each-image-refused : Breaks RefusesEachImage (returns1 ∷ [])
-    -- 7
+    -- 7. the example
     pub left-empty : Breaks LeavesEmpty (returns1 ∷ [])
 
 -- ---- the run, `execute_invalid_channel_predicate`
