@@ -1,36 +1,30 @@
 -- What each contract says of what is seen: the record and the trace of the definition's run. Assumes nothing.
 use mathlib.Core.Path.{_≡_, refl, ap, _∙_, subst}
-use mathlib.Core.Bool.{Bool, true, cond}
-use mathlib.Core.Option.{Option, some}
+use mathlib.Core.Bool.{Bool, true, false, cond}
+use mathlib.Core.Option.{none, some}
 use mathlib.Core.List.{List}
 use Prim.Native.Nat.{ℕ}
-use native.Mathlib.Omega.{arith}
 use borrow.Author.Tests.{leb-true}
 use lib.Dec.{leb}
-use lib.ListN.{length, take}
-use Rattle.predicate_semantics.specs.declared.PredicateTransducerExecution.{PredicateTransducerExecution}
+use lib.ListN.{length}
 use Rattle.predicate_semantics.specs.declared.Rv32SymbolLayout.{Rv32SymbolLayout}
 use Rattle.predicate_semantics.specs.State.{Result}
 use Rattle.predicate_semantics.specs.Refusal.{Tested, passed}
 use Rattle.predicate_semantics.specs.Refusal as Refusal
 use Rattle.predicate_semantics.specs.Lane.{LaneState, Ended}
-use Rattle.predicate_semantics.specs.Standing.{standing, setup}
 use Rattle.lane_memory.specs.Rows.{rowCount}
-use Rattle.lane_access.specs.Answers.{refusalOf}
-use Rattle.lane_record.specs.Format.{Record, accepted, refused, encode}
+use Rattle.lane_record.specs.declared.WriteAnswer.{WriteAnswer}
+use Rattle.lane_record.specs.Format.{Record, encode}
 use Rattle.lane_record.specs.Answers.{Said, wrote, refuses, writeSaid, Writes}
-use Rattle.lane_record.specs.Runs.{refusalIn, recordIn}
-use Rattle.riscv32imc_predicate.specs.declared.PredicateAnswer.{PredicateAnswer}
-use Rattle.riscv32imc_predicate.specs.declared.PredicateAnswer.the-variants as answer
-use Rattle.riscv32imc_predicate.specs.declared.PredicateRun.{PredicateRun}
+use Rattle.lane_record.specs.Runs.{recordIn}
 use Rattle.riscv32imc_predicate.specs.Tracking.{entryCount}
-use Rattle.riscv32imc_predicate.specs.Outcome.{resultBy, executionIn, runOver}
+use Rattle.riscv32imc_predicate.specs.Outcome.{executionIn, runOver}
 use Rattle.lane_library.specs.Inputs.{symbolsIn, imageIn, taken}
-use Rattle.lane_library.specs.Outcome.{imageRecord, imageTrace, Gives}
+use Rattle.lane_library.specs.Outcome.{imageRecord, imageTrace}
 use Rattle.lane_library.specs.Outcome as Library
 use Rattle.wrong_programs.specs.Inputs.{Input}
-use Rattle.wrong_programs.specs.Behaviours.{Seen}
-use Rattle.wrong_programs.specs.Refuted.{RunOutput, recordOf, seenOfRun, RunMeets, LibraryOutput, written, seenOfLibrary, LibraryMeets}
+use Rattle.wrong_programs.specs.Behaviours.{Seen, noSpaceAtOnce}
+use Rattle.wrong_programs.specs.Refuted.{Suffices, NeverAtOnce, RunOutput, recordOf, seenOfRun, RunMeets, LibraryOutput, written, seenOfLibrary, LibraryMeets}
 
 abbrev endedAt : Input → Ended
 endedAt x = runOver (imageIn (x .bytes)) (symbolsIn (x .bytes)) (x .rows) (x .trace)
@@ -58,20 +52,58 @@ run-right x o h = record {
   trace = h .entries;
 }
 
+-- a run that what is lent suffices for is no refusal
+suffices-accepted : (x : Input) → Suffices x → noSpaceAtOnce (some (recordAt x)) ≡ false
+suffices-accepted x (r, e) =
+    ap
+    (λ (t : Tested Result).
+    noSpaceAtOnce (some (recordIn (imageIn (x .bytes)) (symbolsIn (x .bytes)) (rowCount (x .rows)) (entryCount (x .trace)) ((endedAt x) .state) t)))
+    e
+
+pub run-never : NeverAtOnce RunOutput seenOfRun RunMeets
+run-never x h o m = ap noSpaceAtOnce (run-right x o m .recorded) ∙ suffices-accepted x h
+
 -- ---- the library
 
 -- the program takes the input, and the output has room for its record
 abbrev pub Served : Input → Type 0
 Served x = (taken (x .bytes) ≡ true) × (leb (length (encode (recordAt x))) (length (x .output)) ≡ true)
 
+module _ (y : Record) (output : List ℕ) (a : WriteAnswer) (output′ : List ℕ) (h : Writes (some y) output a output′) where
+  -- what is written is read back
+  written-record : leb (length (encode y)) (length output) ≡ true → written (writeSaid a) output′ ≡ some y
+  written-record fits =
+      ap (λ (s : Said). written s output′)
+      (h .answer ∙ ap (λ (b : Bool). cond {A = Said} b (wrote (length (encode y))) (refuses 16)) fits)
+      ∙ h .back y refl (leb-true _ _ fits)
+
+  -- 16 leaves none
+  written-none : leb (length (encode y)) (length output) ≡ false → written (writeSaid a) output′ ≡ none
+  written-none short =
+      ap (λ (s : Said). written s output′)
+      (h .answer ∙ ap (λ (b : Bool). cond {A = Said} b (wrote (length (encode y))) (refuses 16)) short)
+
+  written-no-space : noSpaceAtOnce (some y) ≡ false → noSpaceAtOnce (written (writeSaid a) output′) ≡ false
+  written-no-space e = go (leb (length (encode y)) (length output)) refl
+    where
+      go : (b : Bool) → leb (length (encode y)) (length output) ≡ b → noSpaceAtOnce (written (writeSaid a) output′) ≡ false
+      go true f = ap noSpaceAtOnce (written-record f) ∙ e
+      go false f = ap noSpaceAtOnce (written-none f)
+
 pub library-right : (x : Input) → Served x → (o : LibraryOutput) → LibraryMeets x o → Right x (seenOfLibrary o)
-library-right x (t, fits) o h =
-    let w : Writes (some (recordAt x)) (x .output) (o .answer) (o .output) =
-    subst (λ (b : Bool). Writes (some (Library.recordBy b (x .bytes) (x .rows) (x .trace))) (x .output) (o .answer) (o .output)) t (h .gives .writes) in
-    record {
-      recorded =
-          ap (λ (a : Said). written a (o .output))
-          (w .answer ∙ ap (λ (b : Bool). cond {A = Said} b (wrote (length (encode (recordAt x)))) (refuses 16)) fits)
-          ∙ w .back (recordAt x) refl (leb-true _ _ fits);
-      trace = h .entries ∙ ap (λ (b : Bool). Library.traceBy b (x .bytes) (x .rows) (x .trace)) t;
-    }
+library-right x (t, fits) o h = record {
+  recorded =
+      written-record (recordAt x) (x .output) (o .answer) (o .output)
+      (subst (λ (b : Bool). Writes (some (Library.recordBy b (x .bytes) (x .rows) (x .trace))) (x .output) (o .answer) (o .output)) t (h .gives .writes))
+      fits;
+  trace = h .entries ∙ ap (λ (b : Bool). Library.traceBy b (x .bytes) (x .rows) (x .trace)) t;
+}
+
+pub library-never : NeverAtOnce LibraryOutput seenOfLibrary LibraryMeets
+library-never x h o m =
+    written-no-space (Library.recordBy (taken (x .bytes)) (x .bytes) (x .rows) (x .trace)) (x .output) (o .answer) (o .output) (m .gives .writes)
+    (by-taken (taken (x .bytes)))
+  where
+    by-taken : (b : Bool) → noSpaceAtOnce (some (Library.recordBy b (x .bytes) (x .rows) (x .trace))) ≡ false
+    by-taken true = suffices-accepted x h
+    by-taken false = refl

@@ -27,8 +27,8 @@ use Rattle.predicate_semantics.specs.declared.PredicateTransducerExecution.{Pre
 use Rattle.lane_record.specs.Format.{Record}
 use Rattle.wrong_programs.specs.Inputs.{Input, returnsInput, returns1, returns0, jumpFirst, nopFirst, storesAtStop, storesBelow}
 use Rattle.wrong_programs.specs.Behaviours.{Seen, accepts, numbers, counted, noSpaceAtOnce, steps, Agree}
-use Rattle.wrong_programs.specs.Refuted.{Refuted, RunRefuted, LibraryRefuted}
-use Rattle.wrong_programs.proofs.Right.{Right, recordAt, Served, run-right, library-right}
+use Rattle.wrong_programs.specs.Refuted.{NeverAtOnce, Refuted, RunRefuted, LibraryRefuted}
+use Rattle.wrong_programs.proofs.Right.{Right, recordAt, Served, run-right, run-never, library-right, library-never}
 
 -- to unfold this is to unfold what its line names
 unfoldable pub runs : Unit {0}
@@ -42,7 +42,8 @@ pub different : (n m : ℕ) → n ≡ m → n < m → ⊥
 different n m h k = omega (arith, h, k)
 
 module _ (Output : Type 0) (seen : Output → Seen) (Meets : Input → Output → Type 0)
-    (right : (x : Input) → Served x → (o : Output) → Meets x o → Right x (seen o)) where
+    (right : (x : Input) → Served x → (o : Output) → Meets x o → Right x (seen o))
+    (never : NeverAtOnce Output seen Meets) where
   refuted : Refuted Output seen Meets
   unfolding runs
   refuted = record {
@@ -64,6 +65,7 @@ module _ (Output : Type 0) (seen : Output → Seen) (Meets : Input → Output �
         (omega arith);
     space-left = λ p b m. true≢false
         (sym (b returns1 (omega arith) (omega arith)) ∙ ap noSpaceAtOnce (right returns1 (refl, refl) _ m .recorded));
+    space-left-once = never;
     unchanging = λ p b m n. different 0 1
         (ap (λ (q : Option Record). (numbers q) .«return_value»)
         (sym (right returns0 (refl, refl) _ m .recorded) ∙ b returns0 returns1 ∙ right returns1 (refl, refl) _ n .recorded))
@@ -80,7 +82,7 @@ module _ (Output : Type 0) (seen : Output → Seen) (Meets : Input → Output �
   }
 
 pub run-refuted : RunRefuted
-run-refuted = refuted _ _ _ (λ x s. run-right x)
+run-refuted = refuted _ _ _ (λ x s. run-right x) run-never
 
 pub library-refuted : LibraryRefuted
-library-refuted = refuted _ _ _ library-right
+library-refuted = refuted _ _ _ library-right library-never

@@ -1,5 +1,5 @@
 -- The inputs at which the wrong programs are caught: small images, with as little lent as their runs need.
-use mathlib.Core.List.{List, [], _∷_, _++_}
+use mathlib.Core.List.{List, _++_}
 use Prim.Native.Nat.{ℕ, _*_}
 use lib.ListN.{replicate}
 use Rattle.little_endian.specs.Number.{bytes}

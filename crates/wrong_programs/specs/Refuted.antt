@@ -1,5 +1,6 @@
 -- Condition 3 of document 01 as a table: each wrong program, and the inputs at which it breaks the contract; for the run and for the library.
 use mathlib.Core.Path.{_≡_}
+use mathlib.Core.Bool.{false}
 use mathlib.Core.List.{List, [], _∷_}
 use mathlib.Core.Option.{Option, none, some}
 use Prim.Native.Nat.{ℕ, _≤_}
@@ -15,11 +16,15 @@ use Rattle.lane_record.specs.Format.{Record, accepted, refused}
 use Rattle.lane_record.specs.Decode.{decode}
 use Rattle.lane_record.specs.Answers.{Said, done, wrote, refuses, writeSaid}
 use Rattle.riscv32imc_predicate.specs.declared.PredicateRun.{PredicateRun}
-use Rattle.riscv32imc_predicate.specs.Outcome.{resultIn, Ran}
+use Rattle.riscv32imc_predicate.specs.Outcome.{resultIn, runOver, Ran}
 use Rattle.lane_library.specs.Inputs.{symbolsIn, imageIn}
 use Rattle.lane_library.specs.Outcome.{LaneRuns}
 use Rattle.wrong_programs.specs.Inputs.{Input, returnsInput, returns1, returns0, jumpFirst, nopFirst, storesAtStop, storesBelow}
-use Rattle.wrong_programs.specs.Behaviours.{Seen, AcceptsAt, CopiesInput6, InventsLaterTrace, InventsWrittenBytes, RefusesWithSpaceLeft, NeverChanges, RefusesEachImage, LeavesEmpty}
+use Rattle.wrong_programs.specs.Behaviours.{Seen, noSpaceAtOnce, AcceptsAt, CopiesInput6, InventsLaterTrace, InventsWrittenBytes, RefusesWithSpaceLeft, NeverChanges, RefusesEachImage, LeavesEmpty}
+
+-- the lent rows and entries suffice for the run
+abbrev pub Suffices : Input → Type 0
+Suffices x = (r : Result) × ((runOver (imageIn (x .bytes)) (symbolsIn (x .bytes)) (x .rows) (x .trace)) .answer ≡ passed r)
 
 -- over what a program answers and leaves, what is seen of that, and the contract
 module _ (Output : Type 0) (seen : Output → Seen) (Meets : Input → Output → Type 0) where
@@ -32,6 +37,10 @@ module _ (Output : Type 0) (seen : Output → Seen) (Meets : Input → Output �
   abbrev pub Breaks : ((Input → Seen) → Type 0) → List Input → Type 0
   Breaks Behaves inputs = (program : Input → Output) → Behaves (λ x. seen (program x)) → FailsAt program inputs
 
+  -- 4 of a single input: 13 or 14 before any step, though what is lent suffices
+  abbrev pub NeverAtOnce : Type 0
+  NeverAtOnce = (x : Input) → Suffices x → (o : Output) → Meets x o → noSpaceAtOnce ((seen o) .recorded) ≡ false
+
   pub record Refuted : Type 0 where
     -- 1. 82 80, which returns the input
     pub input-6-copied : Breaks CopiesInput6 (returnsInput ∷ [])
@@ -41,6 +50,7 @@ module _ (Output : Type 0) (seen : Output → Seen) (Meets : Input → Output �
     pub written-bytes-invented : Breaks InventsWrittenBytes (storesAtStop ∷ storesBelow ∷ [])
     -- 4. the example, with four rows and an entry for each step
     pub space-left : Breaks RefusesWithSpaceLeft (returns1 ∷ [])
+    pub space-left-once : NeverAtOnce
     -- 5. images that return 0 and 1
     pub unchanging : Breaks NeverChanges (returns0 ∷ returns1 ∷ [])
     -- 6. the example
