@@ -9,4 +9,4 @@ role-valid-spec =
     (λ c κs. search needs)
     (λ c κs. search needs)
     (λ c κs. search needs)
-    (λ c. cc))
+    (λ c. rw (c .choose .ensures, c .before .before .either .ensures, c .before .within .ensures)))
