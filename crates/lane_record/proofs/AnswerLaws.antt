@@ -24,45 +24,45 @@ use Rattle.lane_record.specs.declared.RecordAnswer.the-variants as answe
 use Rattle.lane_record.specs.declared.ReadAnswer.the-variants as read
 use Rattle.lane_record.specs.declared.RecordReading.{RecordReading}
 use Rattle.lane_record.specs.declared.WriteAnswer.the-variants as write
-use Rattle.lane_record.specs.Format.{heading, event, step, item, items, Record, accepted, refused, executionValues, eventValues, encode, FitsRecord}
-use Rattle.lane_record.specs.Rules.{executionValid, refusalValid, linked, valid}
+use Rattle.lane_record.specs.Format.{heading, event, step, refusal, mark, size, entryBytes, item, items, Record, accepted, refused, executionValues, eventValues, encode, FitsRecord}
+use Rattle.lane_record.specs.Rules.{maxEvents, executionValid, linked, refusalValid, valid}
 use Rattle.lane_record.specs.Decode.{executionAt, eventsAt, refusalAt, stepsFrom, acceptedAt, marked, acceptedForm, ruled, refusedIn, acceptedIn, decode}
 use Rattle.lane_record.specs.Answers.{Said, done, wrote, refuses, refusedReading, noReading, Reads, Exact, acceptedGiven, givenAccepted, Writes}
 use Rattle.lane_record.proofs.TestLaws.{both, always}
 use Rattle.lane_record.proofs.DecodeLaws.{length-eventsAt, length-stepsAt, decode-encode, rules, Formed, form, Same, decode-same, decode-only}
 
-few-cases : (e : PredicateTransducerExecution) (w : Bool) → leb (e .«event_count») 32 ≡ w → executionValid e ≡ true → e .«event_count» ≤ 32
+few-cases : (e : PredicateTransducerExecution) (w : Bool) → leb (e .«event_count») maxEvents ≡ w → executionValid e ≡ true → e .«event_count» ≤ maxEvents
 few-cases e true p v = leb-true _ _ p
 few-cases e false p v = let h : false ≡ true = rw (p, and-false) at v in let z : _≡_ {A = ℕ} 0 1 = cc in absurd (omega arith)
 
-few-events : (e : PredicateTransducerExecution) → executionValid e ≡ true → e .«event_count» ≤ 32
-few-events e v = few-cases e (leb (e .«event_count») 32) refl v
+few-events : (e : PredicateTransducerExecution) → executionValid e ≡ true → e .«event_count» ≤ maxEvents
+few-events e v = few-cases e (leb (e .«event_count») maxEvents) refl v
 
 -- ---- lengths
-length-events : (es : List CompiledMmioEvent) → length (items event (map eventValues es)) ≡ length es * 17
+length-events : (es : List CompiledMmioEvent) → length (items event (map eventValues es)) ≡ length es * size event
 length-events [] = refl
 length-events (e ∷ es) = omega (arith, length-events es)
 
-length-steps : (ss : List PredicateControlStep) → length (items step (map stepValues ss)) ≡ length ss * 14
+length-steps : (ss : List PredicateControlStep) → length (items step (map stepValues ss)) ≡ length ss * size step
 length-steps [] = refl
 length-steps (s ∷ ss) = omega (arith, length-steps ss)
 
 pub length-encode : (e : PredicateTransducerExecution) (es : List CompiledMmioEvent) (ss : List PredicateControlStep)
-    → length (encode (accepted e es ss)) ≡ 21 + length es * 17 + length ss * 14
+    → length (encode (accepted e es ss)) ≡ size heading + length es * size event + length ss * size step
 length-encode e es ss =
     omega (arith, length-append (items event (map eventValues es)) (items step (map stepValues ss)), length-events es, length-steps ss)
 
 -- ---- the record that bytes are
 module _ (bs : List ℕ) (f : RecordRefusal) (ef : f ≡ refusalAt bs) where
-  pub refused-in : length bs ≡ 7 → refusalValid f ≡ true → refusedIn bs ≡ some (refused f)
+  pub refused-in : length bs ≡ size refusal → refusalValid f ≡ true → refusedIn bs ≡ some (refused f)
   refused-in l v =
-      ap (λ (x : RecordRefusal). ruled (eqb (length bs) 7 && refusalValid x) (refused x)) (sym ef) ∙ rw (eq-eqb _ _ l, v)
+      ap (λ (x : RecordRefusal). ruled (eqb (length bs) (size refusal) && refusalValid x) (refused x)) (sym ef) ∙ rw (eq-eqb _ _ l, v)
 
   pub refused-out : refusalValid f ≡ false → refusedIn bs ≡ none
   refused-out v =
-      ap (λ (x : RecordRefusal). ruled (eqb (length bs) 7 && refusalValid x) (refused x)) (sym ef) ∙ rw (v, and-false)
+      ap (λ (x : RecordRefusal). ruled (eqb (length bs) (size refusal) && refusalValid x) (refused x)) (sym ef) ∙ rw (v, and-false)
 
-pub refused-long : (bs : List ℕ) → (length bs ≡ 7 → ⊥) → refusedIn bs ≡ none
+pub refused-long : (bs : List ℕ) → (length bs ≡ size refusal → ⊥) → refusedIn bs ≡ none
 refused-long bs h = rw (ne-eqb _ _ h)
 
 module _ (e : PredicateTransducerExecution) (bs : List ℕ) where
@@ -70,18 +70,18 @@ module _ (e : PredicateTransducerExecution) (bs : List ℕ) where
   steps-in = stepsAt 1 (e .«symbolic_transitions») (drop (stepsFrom e) bs)
 
   -- the tests in the code's order
-  pub form-no : (length bs ≡ stepsFrom e + e .«symbolic_transitions» * 14 → ⊥) → false ≡ (acceptedForm e bs && valid (acceptedAt e bs))
+  pub form-no : (length bs ≡ stepsFrom e + e .«symbolic_transitions» * size step → ⊥) → false ≡ (acceptedForm e bs && valid (acceptedAt e bs))
   form-no h = rw (ne-eqb _ _ h)
 
-  pub form-is : length bs ≡ stepsFrom e + e .«symbolic_transitions» * 14
-      → (eqb (getD bs 0 0) 1 && marked event (e .«event_count») (drop 21 bs) && marked step (e .«symbolic_transitions») (drop (stepsFrom e) bs)
+  pub form-is : length bs ≡ stepsFrom e + e .«symbolic_transitions» * size step
+      → (eqb (getD bs 0 0) (mark heading) && marked event (e .«event_count») (drop (size heading) bs) && marked step (e .«symbolic_transitions») (drop (stepsFrom e) bs)
       && (executionValid e && linked stop steps-in))
       ≡ (acceptedForm e bs && valid (acceptedAt e bs))
   form-is h =
       rw (
         eq-eqb _ _ h,
         always (executionValid e) (linked stop steps-in)
-            (eq-eqb _ _ (length-eventsAt (e .«event_count») (drop 21 bs))) (eq-eqb _ _ (length-stepsAt 1 (e .«symbolic_transitions») (drop (stepsFrom e) bs))),
+            (eq-eqb _ _ (length-eventsAt (e .«event_count») (drop (size heading) bs))) (eq-eqb _ _ (length-stepsAt 1 (e .«symbolic_transitions») (drop (stepsFrom e) bs))),
       )
 
   accepted-out : (acceptedForm e bs && valid (acceptedAt e bs)) ≡ false → acceptedIn e bs ≡ none
@@ -101,7 +101,7 @@ module _ (q : Option Record) (t : List ℕ) where
 -- where they fail, 15; where they pass and the trace is short, 14
 module _ (e : PredicateTransducerExecution) (bs : List ℕ) where
   pub reads-not : (t : List ℕ) {r : RecordReading} (formed : Bool) → (acceptedForm e bs && valid (acceptedAt e bs)) ≡ formed
-      → (formed && leb (e .«symbolic_transitions» * 13) (length t)) ≡ false → r ≡ noReading (cond formed read.TraceTooShort read.RulesBroken) → Reads (acceptedIn e bs) t r t
+      → (formed && leb (e .«symbolic_transitions» * entryBytes) (length t)) ≡ false → r ≡ noReading (cond formed read.TraceTooShort read.RulesBroken) → Reads (acceptedIn e bs) t r t
   reads-not t false w l p = reads-broken (acceptedIn e bs) t (accepted-out e bs w) p
   reads-not t true w l p = rw (accepted-in e bs w, p) (record { answer = rw l; outcome = rw l; trace = rw l })
 
@@ -110,29 +110,29 @@ module _ (e : PredicateTransducerExecution) (bs : List ℕ) (w : (acceptedForm e
   parts : (acceptedForm e bs ≡ true) × (valid (acceptedAt e bs) ≡ true)
   parts = both (acceptedForm e bs) (valid (acceptedAt e bs)) w
 
-  pub exact-length : length bs ≡ stepsFrom e + e .«symbolic_transitions» * 14
+  pub exact-length : length bs ≡ stepsFrom e + e .«symbolic_transitions» * size step
   exact-length = form e bs (parts .0) .exact
 
-  pub events-fit : e .«event_count» ≤ 32
-  events-fit = few-events e (rules e (eventsAt (e .«event_count») (drop 21 bs)) (steps-in e bs) (parts .1) .0)
+  pub events-fit : e .«event_count» ≤ maxEvents
+  events-fit = few-events e (rules e (eventsAt (e .«event_count») (drop (size heading) bs)) (steps-in e bs) (parts .1) .0)
 
-  pub reads-done : (t t′ : List ℕ) (list : List CompiledMmioEvent) → e .«symbolic_transitions» * 13 ≤ length t
-      → list ≡ sets noEvents 0 (eventsAt (e .«event_count») (drop 21 bs)) → t′ ≡ sets t 0 (traceBytes (steps-in e bs))
+  pub reads-done : (t t′ : List ℕ) (list : List CompiledMmioEvent) → e .«symbolic_transitions» * entryBytes ≤ length t
+      → list ≡ sets noEvents 0 (eventsAt (e .«event_count») (drop (size heading) bs)) → t′ ≡ sets t 0 (traceBytes (steps-in e bs))
       → Reads (acceptedIn e bs) t (record { answer = read.Read; outcome = record { answer = answer.Accepted; execution = e; events = list } }) t′
   reads-done t t′ list l p q =
-      let m : length (eventsAt (e .«event_count») (drop 21 bs)) ≤ 32 = rw length-eventsAt events-fit in
+      let m : length (eventsAt (e .«event_count») (drop (size heading) bs)) ≤ maxEvents = rw length-eventsAt events-fit in
       let n : length (traceBytes (steps-in e bs)) ≤ length t = rw (length-trace, length-stepsAt) l in
-      let p′ = p ∙ sets-over (eventsAt (e .«event_count») (drop 21 bs)) noEvents m in
+      let p′ = p ∙ sets-over (eventsAt (e .«event_count») (drop (size heading) bs)) noEvents m in
       rw (accepted-in e bs w)
       (record { answer = rw (le-leb _ _ l); outcome = rw (le-leb _ _ l, p′); trace = rw (le-leb _ _ l) (q ∙ sets-over (traceBytes (steps-in e bs)) t n) })
 
 -- the two kinds of record, by the first byte
 module _ (bs : List ℕ) where
-  pub decode-refused : getD bs 0 0 ≡ 0x7F → decode bs ≡ refusedIn bs
+  pub decode-refused : getD bs 0 0 ≡ mark refusal → decode bs ≡ refusedIn bs
   unfolding decode
   decode-refused h = rw (eq-eqb _ _ h)
 
-  pub decode-accepted : (getD bs 0 0 ≡ 0x7F → ⊥) → decode bs ≡ acceptedIn (executionAt bs) bs
+  pub decode-accepted : (getD bs 0 0 ≡ mark refusal → ⊥) → decode bs ≡ acceptedIn (executionAt bs) bs
   unfolding decode
   decode-accepted h = rw (ne-eqb _ _ h)
 
@@ -173,12 +173,12 @@ module _ (q : Option Record) (out : List ℕ) where
         })
 
 -- ---- the record that a result is
-module _ (e : PredicateTransducerExecution) (es : List CompiledMmioEvent) (t : List ℕ) (len : length es ≡ 32) where
+module _ (e : PredicateTransducerExecution) (es : List CompiledMmioEvent) (t : List ℕ) (len : length es ≡ maxEvents) where
   abbrev steps-given : List PredicateControlStep
   steps-given = stepsAt 0 (e .«symbolic_transitions») t
 
   abbrev tests : Bool
-  tests = leb (e .«symbolic_transitions» * 13) (length t) && (executionValid e && linked stop steps-given)
+  tests = leb (e .«symbolic_transitions» * entryBytes) (length t) && (executionValid e && linked stop steps-given)
 
   events-taken : executionValid e ≡ true → length (take (e .«event_count») es) ≡ e .«event_count»
   events-taken v = length-take-le (e .«event_count») es (omega (arith, few-events e v))
@@ -193,7 +193,7 @@ module _ (e : PredicateTransducerExecution) (es : List CompiledMmioEvent) (t : L
   given-is : (w : Bool) → tests ≡ w → givenAccepted e es t ≡ ruled w (acceptedGiven e es t)
   given-is w h =
       ap (λ (u : Bool). ruled u (acceptedGiven e es t))
-      (ap (λ (u : Bool). leb (e .«symbolic_transitions» * 13) (length t) && u) (sym (valid-given (executionValid e) refl)) ∙ h)
+      (ap (λ (u : Bool). leb (e .«symbolic_transitions» * entryBytes) (length t) && u) (sym (valid-given (executionValid e) refl)) ∙ h)
 
   pub given-out : tests ≡ false → givenAccepted e es t ≡ none
   given-out h = given-is false h
@@ -203,14 +203,14 @@ module _ (e : PredicateTransducerExecution) (es : List CompiledMmioEvent) (t : L
 
   -- what the tests say when they pass
   pub record Passed : Type 0 where
-    pub enough : e .«symbolic_transitions» * 13 ≤ length t
-    pub few : e .«event_count» ≤ 32
+    pub enough : e .«symbolic_transitions» * entryBytes ≤ length t
+    pub few : e .«event_count» ≤ maxEvents
     pub valid-record : valid (acceptedGiven e es t) ≡ true
-    pub long : stepsFrom e + e .«symbolic_transitions» * 14 ≡ length (encode (acceptedGiven e es t))
+    pub long : stepsFrom e + e .«symbolic_transitions» * size step ≡ length (encode (acceptedGiven e es t))
 
   pub passed : tests ≡ true → Passed
   passed h =
-      let u = both (leb (e .«symbolic_transitions» * 13) (length t)) (executionValid e && linked stop steps-given) h in
+      let u = both (leb (e .«symbolic_transitions» * entryBytes) (length t)) (executionValid e && linked stop steps-given) h in
       let v = both (executionValid e) (linked stop steps-given) (u .1) .0 in
       record {
         enough = leb-true _ _ (u .0);
@@ -220,15 +220,15 @@ module _ (e : PredicateTransducerExecution) (es : List CompiledMmioEvent) (t : L
       }
 
   -- the three parts one after another
-  pub written : Passed → (out o1 o2 o3 : List ℕ) → stepsFrom e + e .«symbolic_transitions» * 14 ≤ length out
-      → o1 ≡ sets out 0 (item heading (executionValues e)) → o2 ≡ sets o1 21 (items event (map eventValues (take (e .«event_count») es)))
+  pub written : Passed → (out o1 o2 o3 : List ℕ) → stepsFrom e + e .«symbolic_transitions» * size step ≤ length out
+      → o1 ≡ sets out 0 (item heading (executionValues e)) → o2 ≡ sets o1 (size heading) (items event (map eventValues (take (e .«event_count») es)))
       → o3 ≡ sets o2 (stepsFrom e) (items step (map stepValues steps-given)) → o3 ≡ over (encode (acceptedGiven e es t)) out
   written f out o1 o2 o3 l p q r =
       let H : List ℕ = item heading (executionValues e) in
       let E : List ℕ = items event (map eventValues (take (e .«event_count») es)) in
       let S : List ℕ = items step (map stepValues steps-given) in
       let n : 0 + length (H ++ E) ≡ stepsFrom e = omega (arith, length-events (take (e .«event_count») es), length-take-le (e .«event_count») es (omega (arith, f .few))) in
-      let q′ : o2 ≡ sets out 0 (H ++ E) = q ∙ ap (λ (x : List ℕ). sets x 21 E) p ∙ sets-append H E out 0 in
+      let q′ : o2 ≡ sets out 0 (H ++ E) = q ∙ ap (λ (x : List ℕ). sets x (size heading) E) p ∙ sets-append H E out 0 in
       r
       ∙ ap (λ (x : List ℕ). sets x (stepsFrom e) S) q′
       ∙ ap (λ (k : ℕ). sets (sets out 0 (H ++ E)) k S) (sym n)

@@ -22,8 +22,8 @@ use Rattle.predicate_semantics.specs.Program.{stop}
 use Rattle.predicate_semantics.specs.Trace.{stepWidths, stepValues, stepOf, stepsAt}
 use Rattle.predicate_semantics.proofs.TraceLaws.{steps-values}
 use Rattle.lane_record.specs.declared.RecordRefusal.{RecordRefusal}
-use Rattle.lane_record.specs.Format.{Kind, heading, event, step, refusal, mark, widths, size, item, items, Record, accepted, refused, executionValues, executionOf, eventValues, eventOf, refusalValues, refusalOf, encode, FitsRecord}
-use Rattle.lane_record.specs.Rules.{executionValid, refusalValid, valid, linked}
+use Rattle.lane_record.specs.Format.{Kind, heading, event, step, refusal, mark, widths, size, entryBytes, item, items, Record, accepted, refused, executionValues, executionOf, eventValues, eventOf, refusalValues, refusalOf, encode, FitsRecord}
+use Rattle.lane_record.specs.Rules.{executionValid, linked, refusalValid, valid}
 use Rattle.lane_record.specs.Decode.{executionAt, eventsAt, refusalAt, stepsFrom, acceptedAt, marks, marked, acceptedForm, ruled, refusedIn, acceptedIn, decode}
 use Rattle.lane_record.proofs.TestLaws.{both, yes}
 
@@ -39,11 +39,11 @@ events-values (e ∷ es) = ap (λ (r : List CompiledMmioEvent). e ∷ r) (events
 
 values-events : (n : ℕ) (bs : List ℕ) → map eventValues (eventsAt n bs) ≡ unpacks 1 (widths event) n bs
 values-events zero bs = refl
-values-events (suc n) bs = ap (λ (r : List (List ℕ)). unpack (widths event) (drop 1 bs) ∷ r) (values-events n (drop 17 bs))
+values-events (suc n) bs = ap (λ (r : List (List ℕ)). unpack (widths event) (drop 1 bs) ∷ r) (values-events n (drop (size event) bs))
 
 pub values-steps : (p n : ℕ) (bs : List ℕ) → map stepValues (stepsAt p n bs) ≡ unpacks p stepWidths n bs
 values-steps p zero bs = refl
-values-steps p (suc n) bs = ap (λ (r : List (List ℕ)). unpack stepWidths (drop p bs) ∷ r) (values-steps p n (drop (p + 13) bs))
+values-steps p (suc n) bs = ap (λ (r : List (List ℕ)). unpack stepWidths (drop p bs) ∷ r) (values-steps p n (drop (p + entryBytes) bs))
 
 pub length-eventsAt : (n : ℕ) (bs : List ℕ) → length (eventsAt n bs) ≡ n
 length-eventsAt n bs = length-map (unpacks 1 (widths event) n bs) eventOf ∙ length-unpacks 1 (widths event) n bs
@@ -51,7 +51,7 @@ length-eventsAt n bs = length-map (unpacks 1 (widths event) n bs) eventOf ∙ le
 pub length-stepsAt : (p n : ℕ) (bs : List ℕ) → length (stepsAt p n bs) ≡ n
 length-stepsAt p n bs = length-map (unpacks p stepWidths n bs) stepOf ∙ length-unpacks p stepWidths n bs
 
-pub steps-fit : (p n : ℕ) (bs : List ℕ) → AllBytes bs → n * (p + 13) ≤ length bs → AllFit (widths step) (map stepValues (stepsAt p n bs))
+pub steps-fit : (p n : ℕ) (bs : List ℕ) → AllBytes bs → n * (p + entryBytes) ≤ length bs → AllFit (widths step) (map stepValues (stepsAt p n bs))
 steps-fit p n bs b h = subst (AllFit (widths step)) (sym (values-steps p n bs)) (unpacks-fit p stepWidths n bs b h)
 
 -- ---- items of one kind
@@ -107,33 +107,33 @@ module _ (e : PredicateTransducerExecution) (es : List CompiledMmioEvent) (ss : 
   execution-back : executionAt B ≡ e
   execution-back = ap executionOf (unpack-pack (widths heading) (executionValues e) (E ++ S) (f .0))
 
-  long-events : length E ≡ e .«event_count» * 17
-  long-events = length-packs (2 ∷ []) (widths event) (map eventValues es) (f .1) ∙ rw (length-map es eventValues, events-counted)
+  long-events : length E ≡ e .«event_count» * size event
+  long-events = length-packs (mark event ∷ []) (widths event) (map eventValues es) (f .1) ∙ rw (length-map es eventValues, events-counted)
 
-  long-steps : length S ≡ e .«symbolic_transitions» * 14
-  long-steps = length-packs (3 ∷ []) (widths step) (map stepValues ss) (f .2) ∙ rw (length-map ss stepValues, steps-counted)
+  long-steps : length S ≡ e .«symbolic_transitions» * size step
+  long-steps = length-packs (mark step ∷ []) (widths step) (map stepValues ss) (f .2) ∙ rw (length-map ss stepValues, steps-counted)
 
   past-events : drop (stepsFrom e) B ≡ S
-  past-events = sym (drop-drop (e .«event_count» * 17) 21 B) ∙ drop-at E S (e .«event_count» * 17) long-events
+  past-events = sym (drop-drop (e .«event_count» * size event) (size heading) B) ∙ drop-at E S (e .«event_count» * size event) long-events
 
-  long : length B ≡ stepsFrom e + e .«symbolic_transitions» * 14
+  long : length B ≡ stepsFrom e + e .«symbolic_transitions» * size step
   long = omega (arith, length-append E S, long-events, long-steps)
 
-  events-back : eventsAt (e .«event_count») (drop 21 B) ≡ es
+  events-back : eventsAt (e .«event_count») (drop (size heading) B) ≡ es
   events-back =
-      rw (← events-counted, ← length-map es eventValues) (ap (map eventOf) (unpacks-packs (2 ∷ []) (widths event) (map eventValues es) S (f .1)) ∙ events-values es)
+      rw (← events-counted, ← length-map es eventValues) (ap (map eventOf) (unpacks-packs (mark event ∷ []) (widths event) (map eventValues es) S (f .1)) ∙ events-values es)
 
   steps-in : stepsAt 1 (e .«symbolic_transitions») S ≡ ss
   steps-in =
       rw (← steps-counted, ← length-map ss stepValues, ← append-nil S)
-      (ap (map stepOf) (unpacks-packs (3 ∷ []) (widths step) (map stepValues ss) [] (f .2)) ∙ steps-values ss)
+      (ap (map stepOf) (unpacks-packs (mark step ∷ []) (widths step) (map stepValues ss) [] (f .2)) ∙ steps-values ss)
 
   same-record : acceptedAt e B ≡ accepted e es ss
   same-record =
       ap (λ (x : List CompiledMmioEvent). accepted e x (stepsAt 1 (e .«symbolic_transitions») (drop (stepsFrom e) B))) events-back
       ∙ ap (λ (x : List PredicateControlStep). accepted e es x) (ap (stepsAt 1 (e .«symbolic_transitions»)) past-events ∙ steps-in)
 
-  events-marked : marked event (e .«event_count») (drop 21 B) ≡ true
+  events-marked : marked event (e .«event_count») (drop (size heading) B) ≡ true
   events-marked = rw (← events-counted, ← length-map es eventValues) (marked-items event (map eventValues es) S (f .1))
 
   steps-marked : marked step (e .«symbolic_transitions») (drop (stepsFrom e) B) ≡ true
@@ -142,7 +142,7 @@ module _ (e : PredicateTransducerExecution) (es : List CompiledMmioEvent) (ss : 
       ∙ rw (← steps-counted, ← length-map ss stepValues, ← append-nil S) (marked-items step (map stepValues ss) [] (f .2))
 
   formed : acceptedForm e B ≡ true
-  formed = yes (yes (yes (eq-eqb (length B) (stepsFrom e + e .«symbolic_transitions» * 14) long) refl) events-marked) steps-marked
+  formed = yes (yes (yes (eq-eqb (length B) (stepsFrom e + e .«symbolic_transitions» * size step) long) refl) events-marked) steps-marked
 
   accepted-back : decode B ≡ some (accepted e es ss)
   unfolding decode
@@ -164,16 +164,16 @@ decode-encode (refused r) f v = refused-back r f v
 -- ---- read, then written
 -- what the tests of an accepted record's form say
 pub record Formed (e : PredicateTransducerExecution) (bs : List ℕ) : Type 0 where
-  pub exact : length bs ≡ stepsFrom e + e .«symbolic_transitions» * 14
-  pub kind : getD bs 0 0 ≡ 1
-  pub events-marked : marked event (e .«event_count») (drop 21 bs) ≡ true
+  pub exact : length bs ≡ stepsFrom e + e .«symbolic_transitions» * size step
+  pub kind : getD bs 0 0 ≡ mark heading
+  pub events-marked : marked event (e .«event_count») (drop (size heading) bs) ≡ true
   pub steps-marked : marked step (e .«symbolic_transitions») (drop (stepsFrom e) bs) ≡ true
 
 pub form : (e : PredicateTransducerExecution) (bs : List ℕ) → acceptedForm e bs ≡ true → Formed e bs
 form e bs f =
     let t3 = both _ (marked step (e .«symbolic_transitions») (drop (stepsFrom e) bs)) f in
-    let t2 = both _ (marked event (e .«event_count») (drop 21 bs)) (t3 .0) in
-    let t1 = both (eqb (length bs) (stepsFrom e + e .«symbolic_transitions» * 14)) (eqb (getD bs 0 0) 1) (t2 .0) in
+    let t2 = both _ (marked event (e .«event_count») (drop (size heading) bs)) (t3 .0) in
+    let t1 = both (eqb (length bs) (stepsFrom e + e .«symbolic_transitions» * size step)) (eqb (getD bs 0 0) (mark heading)) (t2 .0) in
     record { exact = eqb-true _ _ (t1 .0); kind = eqb-true _ _ (t1 .1); events-marked = t2 .1; steps-marked = t3 .1 }
 
 three-parts : (x y z : ℕ) (bs : List ℕ) → length bs ≡ x + y + z → take x bs ++ (take y (drop x bs) ++ take z (drop (x + y) bs)) ≡ bs
@@ -192,22 +192,22 @@ module _ (bs : List ℕ) (b : AllBytes bs) where
       let g = form (executionAt bs) bs t in
       let n : ℕ = executionAt bs .«event_count» in
       let s : ℕ = executionAt bs .«symbolic_transitions» in
-      let E : List ℕ = drop 21 bs in
-      let S : List ℕ = drop (21 + n * 17) bs in
-      let lE : n * 17 ≤ length E = simp length-drop (omega (arith, g .exact)) in
-      let lS : s * 14 ≤ length S = simp length-drop (omega (arith, g .exact)) in
-      let bE : AllBytes E = below-drop 21 bs b in
-      let bS : AllBytes S = below-drop (21 + n * 17) bs b in
-      let pE : items event (map eventValues (eventsAt n E)) ≡ take (n * 17) E =
-      ap (items event) (values-events n E) ∙ packs-unpacks (2 ∷ []) (widths event) n E bE lE (marked-led 2 17 n E (omega arith) lE (g .events-marked)) in
-      let pS : items step (map stepValues (stepsAt 1 s S)) ≡ take (s * 14) S =
-      ap (items step) (values-steps 1 s S) ∙ packs-unpacks (3 ∷ []) stepWidths s S bS lS (marked-led 3 14 s S (omega arith) lS (g .steps-marked)) in
-      let pH : item heading (executionValues (executionAt bs)) ≡ take 21 bs = item-at heading bs b (omega (arith, g .exact)) (g .kind) in
+      let E : List ℕ = drop (size heading) bs in
+      let S : List ℕ = drop (size heading + n * size event) bs in
+      let lE : n * size event ≤ length E = simp length-drop (omega (arith, g .exact)) in
+      let lS : s * size step ≤ length S = simp length-drop (omega (arith, g .exact)) in
+      let bE : AllBytes E = below-drop (size heading) bs b in
+      let bS : AllBytes S = below-drop (size heading + n * size event) bs b in
+      let pE : items event (map eventValues (eventsAt n E)) ≡ take (n * size event) E =
+      ap (items event) (values-events n E) ∙ packs-unpacks (mark event ∷ []) (widths event) n E bE lE (marked-led (mark event) (size event) n E (omega arith) lE (g .events-marked)) in
+      let pS : items step (map stepValues (stepsAt 1 s S)) ≡ take (s * size step) S =
+      ap (items step) (values-steps 1 s S) ∙ packs-unpacks (mark step ∷ []) stepWidths s S bS lS (marked-led (mark step) (size step) s S (omega arith) lS (g .steps-marked)) in
+      let pH : item heading (executionValues (executionAt bs)) ≡ take (size heading) bs = item-at heading bs b (omega (arith, g .exact)) (g .kind) in
       record {
         bytes = ap (λ (x : List ℕ). x ++ (items event (map eventValues (eventsAt n E)) ++ items step (map stepValues (stepsAt 1 s S)))) pH
-            ∙ ap (λ (x : List ℕ). take 21 bs ++ (x ++ items step (map stepValues (stepsAt 1 s S)))) pE
-            ∙ ap (λ (x : List ℕ). take 21 bs ++ (take (n * 17) E ++ x)) pS
-            ∙ three-parts 21 (n * 17) (s * 14) bs (g .exact);
+            ∙ ap (λ (x : List ℕ). take (size heading) bs ++ (x ++ items step (map stepValues (stepsAt 1 s S)))) pE
+            ∙ ap (λ (x : List ℕ). take (size heading) bs ++ (take (n * size event) E ++ x)) pS
+            ∙ three-parts (size heading) (n * size event) (s * size step) bs (g .exact);
         rules = v;
         fits = (
           unpack-fits (widths heading) (drop 1 bs) (below-drop 1 bs b) (simp length-drop (omega (arith, g .exact))),
@@ -216,18 +216,18 @@ module _ (bs : List ℕ) (b : AllBytes bs) where
         );
       }
 
-  refused-same : getD bs 0 0 ≡ 0x7F → length bs ≡ 7 → refusalValid (refusalAt bs) ≡ true → Same bs (refused (refusalAt bs))
+  refused-same : getD bs 0 0 ≡ mark refusal → length bs ≡ size refusal → refusalValid (refusalAt bs) ≡ true → Same bs (refused (refusalAt bs))
   refused-same m l v =
       record {
-        bytes = item-at refusal bs b (omega arith) m ∙ take-all 7 bs (omega arith);
+        bytes = item-at refusal bs b (omega arith) m ∙ take-all (size refusal) bs (omega arith);
         rules = v;
         fits = unpack-fits (widths refusal) (drop 1 bs) (below-drop 1 bs b) (simp length-drop (omega arith));
       }
 
-  same-cases : (x : Record) (m : Bool) → eqb (getD bs 0 0) 0x7F ≡ m → cond m (refusedIn bs) (acceptedIn (executionAt bs) bs) ≡ some x → Same bs x
+  same-cases : (x : Record) (m : Bool) → eqb (getD bs 0 0) (mark refusal) ≡ m → cond m (refusedIn bs) (acceptedIn (executionAt bs) bs) ≡ some x → Same bs x
   same-cases x true p e =
-      let u = ruled-some (eqb (length bs) 7 && valid (refused (refusalAt bs))) (refused (refusalAt bs)) x e in
-      let t = both (eqb (length bs) 7) (valid (refused (refusalAt bs))) (u .0) in
+      let u = ruled-some (eqb (length bs) (size refusal) && valid (refused (refusalAt bs))) (refused (refusalAt bs)) x e in
+      let t = both (eqb (length bs) (size refusal)) (valid (refused (refusalAt bs))) (u .0) in
       subst (Same bs) (u .1) (refused-same (eqb-true _ _ p) (eqb-true _ _ (t .0)) (t .1))
   same-cases x false p e =
       let u = ruled-some (acceptedForm (executionAt bs) bs && valid (acceptedAt (executionAt bs) bs)) (acceptedAt (executionAt bs) bs) x e in
@@ -236,7 +236,7 @@ module _ (bs : List ℕ) (b : AllBytes bs) where
 
   pub decode-same : (x : Record) → decode bs ≡ some x → Same bs x
   unfolding decode
-  decode-same x e = same-cases x (eqb (getD bs 0 0) 0x7F) refl e
+  decode-same x e = same-cases x (eqb (getD bs 0 0) (mark refusal)) refl e
 
 -- and the bytes of a record that keeps the rules read as it
 pub decode-only : (bs : List ℕ) (x : Record) → encode x ≡ bs → valid x ≡ true → FitsRecord x → decode bs ≡ some x

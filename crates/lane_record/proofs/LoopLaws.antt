@@ -18,8 +18,8 @@ use Rattle.predicate_semantics.specs.declared.CompiledMmioEvent.{CompiledMmioEv
 use Rattle.predicate_semantics.specs.Blank.{noEvent}
 use Rattle.predicate_semantics.specs.Program.{stop}
 use Rattle.predicate_semantics.specs.Trace.{stepWidths, stepValues, stepOf, stepsAt}
-use Rattle.lane_record.specs.Format.{event, widths, item, items, eventValues, eventOf}
-use Rattle.lane_record.specs.Rules.{link, begins, linked}
+use Rattle.lane_record.specs.Format.{heading, event, widths, size, entryBytes, item, items, eventValues, eventOf}
+use Rattle.lane_record.specs.Rules.{maxEvents, link, begins, linked}
 use Rattle.lane_record.specs.Decode.{eventsAt, marks}
 
 -- one of n rooms of z
@@ -56,39 +56,39 @@ module _ {s : List ℕ} {m z : ℕ} {b : Bool} {at left : ℕ} (t : Marking s m 
   marking-yes h = let e : left ≡ 0 = omega arith in sym (t .rest ∙ rw e)
 
 -- ---- steps
-steps-suc : (p n : ℕ) (bs : List ℕ) → 0 < n → stepsAt p n bs ≡ stepOf (unpack stepWidths (drop p bs)) ∷ stepsAt p (n - 1) (drop (p + 13) bs)
+steps-suc : (p n : ℕ) (bs : List ℕ) → 0 < n → stepsAt p n bs ≡ stepOf (unpack stepWidths (drop p bs)) ∷ stepsAt p (n - 1) (drop (p + entryBytes) bs)
 steps-suc p zero bs h = absurd (omega arith)
 steps-suc p (suc n) bs h = let e : suc n - 1 ≡ n = omega arith in rw e
 
 -- n steps of s from at on begin with the one that is read there
 pub steps-next : (s : List ℕ) (at p n : ℕ) (x : PredicateControlStep) → x ≡ stepOf (unpack stepWidths (drop (at + p) s)) → 0 < n
-    → stepsAt p n (drop at s) ≡ x ∷ stepsAt p (n - 1) (drop (at + (p + 13)) s)
+    → stepsAt p n (drop at s) ≡ x ∷ stepsAt p (n - 1) (drop (at + (p + entryBytes)) s)
 steps-next s at p n x e h =
     steps-suc p n (drop at s) h
-    ∙ ap (λ (y : List ℕ). stepOf (unpack stepWidths y) ∷ stepsAt p (n - 1) (drop (p + 13) (drop at s))) (drop-drop p at s)
-    ∙ ap (λ (y : PredicateControlStep). y ∷ stepsAt p (n - 1) (drop (p + 13) (drop at s))) (sym e)
-    ∙ ap (λ (y : List ℕ). x ∷ stepsAt p (n - 1) y) (drop-drop (p + 13) at s)
+    ∙ ap (λ (y : List ℕ). stepOf (unpack stepWidths y) ∷ stepsAt p (n - 1) (drop (p + entryBytes) (drop at s))) (drop-drop p at s)
+    ∙ ap (λ (y : PredicateControlStep). y ∷ stepsAt p (n - 1) (drop (p + entryBytes) (drop at s))) (sym e)
+    ∙ ap (λ (y : List ℕ). x ∷ stepsAt p (n - 1) y) (drop-drop (p + entryBytes) at s)
 
 pub begins-some : (s : List ℕ) (at p n : ℕ) → 0 < n → number.value (take 4 (drop (at + p) s)) ≡ begins stop (stepsAt p n (drop at s))
 begins-some s at p n h = sym (ap (begins stop) (steps-next s at p n _ refl h))
 
 pub record Linking (s : List ℕ) (p : ℕ) (b : Bool) (at left : ℕ) : Type 0 where
-  pub fits : at + left * (p + 13) ≤ length s
+  pub fits : at + left * (p + entryBytes) ≤ length s
   pub rest : b ≡ linked stop (stepsAt p left (drop at s))
 
 module _ {s : List ℕ} {p : ℕ} {b : Bool} {at left : ℕ} (t : Linking s p b at left) where
-  pub linking-room : 0 < left → at + (p + 13) ≤ length s
-  linking-room h = room at left (p + 13) (length s) (t .fits) h
+  pub linking-room : 0 < left → at + (p + entryBytes) ≤ length s
+  linking-room h = room at left (p + entryBytes) (length s) (t .fits) h
 
-  pub linking-left : 0 < left → at + (p + 13) + (left - 1) * (p + 13) ≤ length s
-  linking-left h = omega (arith, one-less left (p + 13) h, t .fits)
+  pub linking-left : 0 < left → at + (p + entryBytes) + (left - 1) * (p + entryBytes) ≤ length s
+  linking-left h = omega (arith, one-less left (p + entryBytes) h, t .fits)
 
   pub linking-yes : left ≤ 0 → true ≡ b
   linking-yes h = let e : left ≡ 0 = omega arith in sym (t .rest ∙ rw e)
 
   module _ (x : PredicateControlStep) (ex : x ≡ stepOf (unpack stepWidths (drop (at + p) s))) (h : 0 < left) where
     abbrev later : List PredicateControlStep
-    later = stepsAt p (left - 1) (drop (at + (p + 13)) s)
+    later = stepsAt p (left - 1) (drop (at + (p + entryBytes)) s)
 
     linking-next : b ≡ (link x (begins stop later) && linked stop later)
     linking-next = t .rest ∙ ap (linked stop) (steps-next s at p left x ex h)
@@ -96,32 +96,32 @@ module _ {s : List ℕ} {p : ℕ} {b : Bool} {at left : ℕ} (t : Linking s p b 
     pub linking-no : (c : ℕ) → c ≡ begins stop later → link x c ≡ false → false ≡ b
     linking-no c ec e = sym (linking-next ∙ ap (λ (y : Bool). y && linked stop later) (ap (link x) (sym ec) ∙ e))
 
-    pub linking-step : (c : ℕ) → c ≡ begins stop later → link x c ≡ true → Linking s p b (at + (p + 13)) (left - 1)
+    pub linking-step : (c : ℕ) → c ≡ begins stop later → link x c ≡ true → Linking s p b (at + (p + entryBytes)) (left - 1)
     linking-step c ec e =
         record { fits = linking-left h; rest = linking-next ∙ ap (λ (y : Bool). y && linked stop later) (ap (link x) (sym ec) ∙ e) }
 
 -- steps from one place to another: each is read after p other bytes and written after the bytes pre
-pub record Moving (pre : List ℕ) (p : ℕ) (source final : List ℕ) (size : ℕ) (t : List ℕ) (left at from : ℕ) : Type 0 where
-  pub long : length t ≡ size
-  pub fits : at + left * (length pre + 13) ≤ size
-  pub has : from + left * (p + 13) ≤ length source
+pub record Moving (pre : List ℕ) (p : ℕ) (source final : List ℕ) (len : ℕ) (t : List ℕ) (left at from : ℕ) : Type 0 where
+  pub long : length t ≡ len
+  pub fits : at + left * (length pre + entryBytes) ≤ len
+  pub has : from + left * (p + entryBytes) ≤ length source
   pub rest : final ≡ sets t at (packs pre stepWidths (map stepValues (stepsAt p left (drop from source))))
 
-module _ {pre : List ℕ} {p : ℕ} {source final : List ℕ} {size : ℕ} {t : List ℕ} {left at from : ℕ} (c : Moving pre p source final size t left at from) where
+module _ {pre : List ℕ} {p : ℕ} {source final : List ℕ} {len : ℕ} {t : List ℕ} {left at from : ℕ} (c : Moving pre p source final len t left at from) where
   pub moving-exit : left ≤ 0 → t ≡ final
   moving-exit h = let e : left ≡ 0 = omega arith in sym (c .rest ∙ rw e)
 
   pub moving-step : {t′ : List ℕ} (x : PredicateControlStep) → x ≡ stepOf (unpack stepWidths (drop (from + p) source)) → 0 < left
       → t′ ≡ sets t at (pre ++ pack stepWidths (stepValues x)) → length t′ ≡ length t
-      → Moving pre p source final size t′ (left - 1) (at + (length pre + 13)) (from + (p + 13))
+      → Moving pre p source final len t′ (left - 1) (at + (length pre + entryBytes)) (from + (p + entryBytes))
   moving-step {t′} x ex h e l =
       record {
         long = l ∙ c .long;
-        fits = omega (arith, one-less left (length pre + 13) h, c .fits);
-        has = omega (arith, one-less left (p + 13) h, c .has);
+        fits = omega (arith, one-less left (length pre + entryBytes) h, c .fits);
+        has = omega (arith, one-less left (p + entryBytes) h, c .has);
         rest = c .rest
             ∙ ap (λ (ss : List PredicateControlStep). sets t at (packs pre stepWidths (map stepValues ss))) (steps-next source from p left x ex h)
-            ∙ sets-step t t′ at (length pre + 13) (pre ++ pack stepWidths (stepValues x)) _ e (length-append pre (pack stepWidths (stepValues x)));
+            ∙ sets-step t t′ at (length pre + entryBytes) (pre ++ pack stepWidths (stepValues x)) _ e (length-append pre (pack stepWidths (stepValues x)));
       }
 
 -- ---- events out
@@ -131,19 +131,19 @@ fit-snoc k [] h a f = absurd (omega arith)
 fit-snoc zero (e ∷ es) h a f = (f, tt)
 fit-snoc (suc k) (e ∷ es) h a f = (a .0, fit-snoc k es (omega arith) (a .1) f)
 
-pub record Listing (es : List CompiledMmioEvent) (final : List ℕ) (size n : ℕ) (t : List ℕ) (k at : ℕ) : Type 0 where
-  pub long : length t ≡ size
+pub record Listing (es : List CompiledMmioEvent) (final : List ℕ) (len n : ℕ) (t : List ℕ) (k at : ℕ) : Type 0 where
+  pub long : length t ≡ len
   pub within : k ≤ n
-  pub place : at ≡ 21 + k * 17
+  pub place : at ≡ size heading + k * size event
   pub rest : final ≡ sets t at (items event (map eventValues (take (n - k) (drop k es))))
   pub fit : AllFit (widths event) (map eventValues (take k es))
 
-pub listing-start : (es : List CompiledMmioEvent) (t : List ℕ) (n : ℕ) → Listing es (sets t 21 (items event (map eventValues (take n es)))) (length t) n t 0 21
+pub listing-start : (es : List CompiledMmioEvent) (t : List ℕ) (n : ℕ) → Listing es (sets t (size heading) (items event (map eventValues (take n es)))) (length t) n t 0 (size heading)
 listing-start es t n = let e : n - 0 ≡ n = omega arith in record { long = refl; within = omega arith; place = refl; rest = rw e; fit = tt }
 
-module _ {es : List CompiledMmioEvent} {final : List ℕ} {size n : ℕ} {t : List ℕ} {k at : ℕ} (c : Listing es final size n t k at) where
+module _ {es : List CompiledMmioEvent} {final : List ℕ} {len n : ℕ} {t : List ℕ} {k at : ℕ} (c : Listing es final len n t k at) where
   pub listing-step : {t′ : List ℕ} → n ≤ length es → k < n → t′ ≡ sets t at (item event (eventValues (getD es k noEvent))) → length t′ ≡ length t
-      → Fits (widths event) (eventValues (getD es k noEvent)) → Listing es final size n t′ (k + 1) (at + 17)
+      → Fits (widths event) (eventValues (getD es k noEvent)) → Listing es final len n t′ (k + 1) (at + size event)
   listing-step {t′} f h e l w =
       let e1 : n - k ≡ suc (n - (k + 1)) = omega arith in
       let later : List ℕ = items event (map eventValues (take (n - (k + 1)) (drop (k + 1) es))) in
@@ -153,7 +153,7 @@ module _ {es : List CompiledMmioEvent} {final : List ℕ} {size n : ℕ} {t : Li
         long = l ∙ c .long;
         within = omega arith;
         place = omega (arith, c .place);
-        rest = c .rest ∙ ap (sets t at) p ∙ sets-step t t′ at 17 (item event (eventValues (getD es k noEvent))) later e refl;
+        rest = c .rest ∙ ap (sets t at) p ∙ sets-step t t′ at (size event) (item event (eventValues (getD es k noEvent))) later e refl;
         fit = rw (add-one k) (fit-snoc k es (omega arith) (c .fit) w);
       }
 
@@ -165,23 +165,23 @@ module _ {es : List CompiledMmioEvent} {final : List ℕ} {size n : ℕ} {t : Li
 
 -- ---- events in
 pub record Taking (s : List ℕ) (final : List CompiledMmioEvent) (n : ℕ) (es : List CompiledMmioEvent) (k at : ℕ) : Type 0 where
-  pub long : length es ≡ 32
+  pub long : length es ≡ maxEvents
   pub within : k ≤ n
-  pub place : at ≡ 21 + k * 17
+  pub place : at ≡ size heading + k * size event
   pub rest : final ≡ sets es k (eventsAt (n - k) (drop at s))
 
-pub taking-start : (s : List ℕ) (es : List CompiledMmioEvent) (n : ℕ) → length es ≡ 32 → Taking s (sets es 0 (eventsAt n (drop 21 s))) n es 0 21
+pub taking-start : (s : List ℕ) (es : List CompiledMmioEvent) (n : ℕ) → length es ≡ maxEvents → Taking s (sets es 0 (eventsAt n (drop (size heading) s))) n es 0 (size heading)
 taking-start s es n h = let e : n - 0 ≡ n = omega arith in record { long = h; within = omega arith; place = refl; rest = rw e }
 
 module _ {s : List ℕ} {final : List CompiledMmioEvent} {n : ℕ} {es : List CompiledMmioEvent} {k at : ℕ} (c : Taking s final n es k at) where
-  pub taking-step : (e : CompiledMmioEvent) → k < n → e ≡ eventOf (unpack (widths event) (drop (at + 1) s)) → Taking s final n (set es k e) (k + 1) (at + 17)
+  pub taking-step : (e : CompiledMmioEvent) → k < n → e ≡ eventOf (unpack (widths event) (drop (at + 1) s)) → Taking s final n (set es k e) (k + 1) (at + size event)
   taking-step e h q =
       let e1 : n - k ≡ suc (n - (k + 1)) = omega arith in
       record {
         long = simp length-set (c .long);
         within = omega arith;
         place = omega (arith, c .place);
-        rest = c .rest ∙ rw (e1, drop-drop 1 at s, drop-drop 17 at s, ← q, add-one k);
+        rest = c .rest ∙ rw (e1, drop-drop 1 at s, drop-drop (size event) at s, ← q, add-one k);
       }
 
   pub taking-exit : n ≤ k → es ≡ final

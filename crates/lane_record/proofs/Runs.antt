@@ -13,6 +13,7 @@ use borrow.Author.Tests.{le-leb, eq-eqb}
 use Rattle.little_endian.specs.Lent.{over}
 use Rattle.riscv32imc.specs.Constants.{maxSteps}
 use Rattle.lane_word.specs.Word.{inputs}
+use Rattle.lane_word.specs.Word as Word
 use Rattle.predicate_semantics.specs.declared.CompiledMmioEvent.{CompiledMmioEvent}
 use Rattle.predicate_semantics.specs.declared.PredicateControlStep.{PredicateControlStep}
 use Rattle.predicate_semantics.specs.declared.Rv32SymbolLayout.{Rv32SymbolLayout}
@@ -29,7 +30,7 @@ use Rattle.predicate_semantics.proofs.RecordRules.{refused-proper, takes-step}
 use Rattle.predicate_semantics.proofs.RecordRules as Rules
 use Rattle.predicate_semantics.proofs.TraceLaws.{standing-completed, standing-trace-fits}
 use Rattle.lane_record.specs.Format.{Record, accepted, refused}
-use Rattle.lane_record.specs.Rules.{link, begins, linked, refusalValid, valid}
+use Rattle.lane_record.specs.Rules.{minWrittenBytes, maxWrittenBytes, maxEvents, link, begins, linked, refusalValid, valid}
 use Rattle.lane_record.specs.Decode.{ruled}
 use Rattle.lane_record.specs.Answers.{given}
 use Rattle.lane_record.specs.Runs.{refusalIn, recordIn, outcomeIn, KeepsRules}
@@ -89,11 +90,11 @@ module _ (image : List ℕ) (symbols : Rv32SymbolLayout) (rows entries : ℕ) wh
         yes (yes (yes
         (yes (yes (yes (yes (yes refl refl)
         (yes (le-leb 1 (r .steps) (takes-step image symbols rows entries r q))
-        (le-leb (r .steps) 1000000 (omega (arith, done .bound, ended .steps)))))
-        (eq-eqb (250 * s .steps) (250 * r .steps) (ap (λ (n : ℕ). 250 * n) (ended .steps))))
-        (yes (le-leb 4 (length (s .memory)) (ended .written-least))
-        (le-leb (length (s .memory)) 2097151 (omega (arith, ended .written-most)))))
-        (le-leb (length (r .events)) 32 (ended .events)))
+        (le-leb (r .steps) maxSteps (omega (arith, done .bound, ended .steps)))))
+        (eq-eqb (Word.lanes * s .steps) (Word.lanes * r .steps) (ap (λ (n : ℕ). Word.lanes * n) (ended .steps))))
+        (yes (le-leb minWrittenBytes (length (s .memory)) (ended .written-least))
+        (le-leb (length (s .memory)) maxWrittenBytes (omega (arith, ended .written-most)))))
+        (le-leb (length (r .events)) maxEvents (ended .events)))
         (eq-eqb (length events) (length (r .events)) (ap length same-events)))
         (eq-eqb (length (s .trace)) (r .steps) (done .counted ∙ ended .steps)))
         (subst (λ (x : ℕ). linked x (s .trace) ≡ true) (ended .arrived) (linked-chain _ _ (s .trace) (done .chain)))
@@ -110,7 +111,7 @@ module _ (image : List ℕ) (symbols : Rv32SymbolLayout) (rows entries : ℕ) wh
   kept-refused : (f : Refusal.Refusal) → e .answer ≡ Refusal.refused f → refusalValid (refusalIn image symbols rows entries s f) ≡ true
   unfolding standingLaneRun proper
   kept-refused f q =
-      yes {t = proper f} (holds (proper f) (refused-proper p l maxSteps f q)) (le-leb (s .steps) 1000000 (omega (arith, done .bound)))
+      yes {t = proper f} (holds (proper f) (refused-proper p l maxSteps f q)) (le-leb (s .steps) maxSteps (omega (arith, done .bound)))
 
   kept : (a : Tested Result) → e .answer ≡ a → (t : List ℕ)
       → given (outcomeIn image symbols rows entries s a) (over (traceBytes (s .trace)) t) ≡ some (recordIn image symbols rows entries s a)

@@ -23,7 +23,7 @@ use Rattle.lane_record.specs.declared.RecordRefusal.{RecordRefusal}
 use Rattle.lane_record.specs.declared.RecordAnswer.{RecordAnswer}
 use Rattle.lane_record.specs.declared.RecordAnswer.the-variants as answer
 use Rattle.lane_record.specs.declared.RecordOutcome.{RecordOutcome}
-use Rattle.lane_record.specs.Format.{step, widths, Record, accepted, refused, encode, FitsRecord}
+use Rattle.lane_record.specs.Format.{step, widths, entryBytes, Record, accepted, refused, encode, FitsRecord}
 use Rattle.lane_record.specs.Rules.{link, begins, linked, valid}
 use Rattle.lane_record.specs.Decode.{ruled, decode}
 use Rattle.lane_record.specs.Answers.{Said, done, wrote, refuses, noOutcome, refusedOutcome, acceptedOutcome, readAnswer, readOutcome, readTrace, acceptedGiven, givenAccepted, givenRefused, givenBy, given, writeAnswer, writeOutput}
@@ -37,8 +37,8 @@ led-nil z zero bs = tt
 led-nil z (suc n) bs = (refl, led-nil z n (drop z bs))
 
 -- entries read and written again
-entries-same : (n : ℕ) (t : List ℕ) → AllBytes t → n * 13 ≤ length t → traceBytes (stepsAt 0 n t) ≡ take (n * 13) t
-entries-same n t b l = rw (values-steps 0 n t) (packs-unpacks [] stepWidths n t b l (led-nil 13 n t))
+entries-same : (n : ℕ) (t : List ℕ) → AllBytes t → n * entryBytes ≤ length t → traceBytes (stepsAt 0 n t) ≡ take (n * entryBytes) t
+entries-same n t b l = rw (values-steps 0 n t) (packs-unpacks [] stepWidths n t b l (led-nil entryBytes n t))
 
 -- an accepted result whose steps stand in the trace is their record, if that keeps the rules
 pub given-trace : (e : PredicateTransducerExecution) (es : List CompiledMmioEvent) (ss : List PredicateControlStep) (t : List ℕ)
@@ -49,8 +49,8 @@ given-trace e es ss t f v =
     let n = rules e (take (e .«event_count») es) ss v .2 in
     let same : acceptedGiven e es T ≡ accepted e (take (e .«event_count») es) ss =
     ap (λ (x : List PredicateControlStep). accepted e (take (e .«event_count») es) x) (rw (← n) (trace-back ss t f)) in
-    let l : e .«symbolic_transitions» * 13 ≤ length T = omega (arith, length-append (traceBytes ss) (drop (length (traceBytes ss)) t), length-trace ss, n) in
-    ap (λ (x : Record). ruled (leb (e .«symbolic_transitions» * 13) (length T) && valid x) x) same
+    let l : e .«symbolic_transitions» * entryBytes ≤ length T = omega (arith, length-append (traceBytes ss) (drop (length (traceBytes ss)) t), length-trace ss, n) in
+    ap (λ (x : Record). ruled (leb (e .«symbolic_transitions» * entryBytes) (length T) && valid x) x) same
     ∙ ap (λ (w : Bool). ruled w (accepted e (take (e .«event_count») es) ss)) (yes (le-leb _ _ l) v)
 
 -- a trace that ends at a step's counter stays linked when the step is added
@@ -65,11 +65,11 @@ linked-snoc end (x ∷ y ∷ ss) s l k =
 -- ---- written, then read
 -- what an accepted outcome and a trace that keep the rules stand for
 given-accepted : (e : PredicateTransducerExecution) (es : List CompiledMmioEvent) (t : List ℕ) (x : Record) → givenAccepted e es t ≡ some x
-    → (e .«symbolic_transitions» * 13 ≤ length t) × (valid (acceptedGiven e es t) ≡ true) × (acceptedGiven e es t ≡ x)
+    → (e .«symbolic_transitions» * entryBytes ≤ length t) × (valid (acceptedGiven e es t) ≡ true) × (acceptedGiven e es t ≡ x)
 given-accepted e es t x g =
     let r : Record = acceptedGiven e es t in
-    let u = ruled-some (leb (e .«symbolic_transitions» * 13) (length t) && valid r) r x g in
-    let w = both (leb (e .«symbolic_transitions» * 13) (length t)) (valid r) (u .0) in
+    let u = ruled-some (leb (e .«symbolic_transitions» * entryBytes) (length t) && valid r) r x g in
+    let w = both (leb (e .«symbolic_transitions» * entryBytes) (length t)) (valid r) (u .0) in
     (leb-true _ _ (w .0), w .1, u .1)
 
 given-refused : (f : RecordRefusal) (x : Record) → givenRefused f ≡ some x → (valid (refused f) ≡ true) × (refused f ≡ x)
@@ -103,11 +103,11 @@ given-read : (a : RecordAnswer) (e : PredicateTransducerExecution) (es : List Co
     → (readAnswer (some x) (length t2) ≡ done) × (readOutcome (some x) (length t2) ≡ countedBy a e es) × (readTrace (some x) t2 ≡ over (entriesBy a e t) t2)
 given-read answer.Accepted e es t t2 x g b l =
     let u = given-accepted e es t x g in
-    let n = le-leb (e .«symbolic_transitions» * 13) (length t2) (omega (arith, length-take-le (e .«symbolic_transitions» * 13) t (u .0))) in
+    let n = le-leb (e .«symbolic_transitions» * entryBytes) (length t2) (omega (arith, length-take-le (e .«symbolic_transitions» * entryBytes) t (u .0))) in
     subst (λ (y : Record).
     (readAnswer (some y) (length t2) ≡ done)
     × (readOutcome (some y) (length t2) ≡ acceptedOutcome e (take (e .«event_count») es))
-    × (readTrace (some y) t2 ≡ over (take (e .«symbolic_transitions» * 13) t) t2))
+    × (readTrace (some y) t2 ≡ over (take (e .«symbolic_transitions» * entryBytes) t) t2))
     (u .2) (rw n, rw n, rw (n, entries-same (e .«symbolic_transitions») t b (u .0)))
 given-read (answer.Refused f) e es t t2 x g b l =
     subst (λ (y : Record).
@@ -141,7 +141,7 @@ read-write : (bs t : List ℕ) (x : Record) → AllBytes bs → decode bs ≡ so
     → given (readOutcome (some x) (length t)) (readTrace (some x) t) ≡ some x
 read-write bs t (refused f) b e d = let s = decode-same bs b (refused f) e in rw (s .rules)
 read-write bs t (accepted h es ss) b e d =
-    let s = decode-same bs b (accepted h es ss) e in again h es ss t (s .fits) (s .rules) (leb (h .«symbolic_transitions» * 13) (length t)) d
+    let s = decode-same bs b (accepted h es ss) e in again h es ss t (s .fits) (s .rules) (leb (h .«symbolic_transitions» * entryBytes) (length t)) d
 
 -- so it is written again byte for byte
 record-rewritten : (bs t out : List ℕ) (x : Record) → AllBytes bs → decode bs ≡ some x → readAnswer (some x) (length t) ≡ done → length bs ≤ length out

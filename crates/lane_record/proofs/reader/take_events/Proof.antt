@@ -8,10 +8,11 @@ use Rattle.predicate_semantics.specs.Blank.{noEvents}
 use Rattle.lane_record.specs.Decode.{eventsAt}
 use Rattle.lane_record.proofs.LoopLaws.{Taking, taking-start, taking-step, taking-exit}
 use Rattle.lane_record.proofs.reader.take_events.Statement.{statement}
+use Rattle.lane_record.specs.Format.{heading, size}
 use Rattle.lane_record.proofs.reader.take_events.Tie as tie
 
 abbrev Inv-loop : tie.InvT-loop
-Inv-loop s n events₀ k₀ at₀ events k at = Taking s (sets noEvents 0 (eventsAt n (drop 21 s))) n events k at
+Inv-loop s n events₀ k₀ at₀ events k at = Taking s (sets noEvents 0 (eventsAt n (drop (size heading) s))) n events k at
 
 abbrev μ-loop : tie.MeasureT-loop
 μ-loop s n events₀ k₀ at₀ events k at = n - k

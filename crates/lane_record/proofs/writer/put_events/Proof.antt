@@ -4,13 +4,13 @@ use native.Mathlib.Omega.{arith}
 use lib.ListN.{length, take}
 use lib.Seq.{sets}
 use borrow.Author.Needs.{needs}
-use Rattle.lane_record.specs.Format.{event, items, eventValues}
+use Rattle.lane_record.specs.Format.{heading, event, size, items, eventValues}
 use Rattle.lane_record.proofs.LoopLaws.{Listing, listing-start, listing-step, listing-exit}
 use Rattle.lane_record.proofs.writer.put_events.Statement.{statement}
 use Rattle.lane_record.proofs.writer.put_events.Tie as tie
 
 abbrev Inv-loop : tie.InvT-loop
-Inv-loop s₀ n events k₀ at₀ s k at = Listing events (sets s₀ 21 (items event (map eventValues (take n events)))) (length s₀) n s k at
+Inv-loop s₀ n events k₀ at₀ s k at = Listing events (sets s₀ (size heading) (items event (map eventValues (take n events)))) (length s₀) n s k at
 
 abbrev μ-loop : tie.MeasureT-loop
 μ-loop s₀ n events k₀ at₀ s k at = n - k
