@@ -15,8 +15,7 @@ use Rattle.predicate_semantics.specs.Scalar as Scalar
 use Rattle.predicate_semantics.specs.Standing.{standingScalarRun}
 use Rattle.predicate_semantics.specs.Standing as Standing
 use Rattle.riscv32imc_predicate.specs.Outcome.{resultIn}
-use Rattle.lane_library.specs.Inputs.{symbolsIn, imageIn}
-use Rattle.wrong_programs.specs.Inputs.{Input, returnsInput, returns1, returns0, jumpFirst, nopFirst}
+use Rattle.wrong_programs.specs.Inputs.{Input, imageOf, symbolsOf, returnsInput, returns1, returns0, jumpFirst, nopFirst}
 use Rattle.wrong_programs.specs.Behaviours.{accepts, steps, Agree}
 use Rattle.wrong_programs.specs.Refuted.{RunOutput, recordOf, seenOfRun, RunPromises, PromiseRefuted}
 use Rattle.wrong_programs.proofs.Table.{runs, different}
@@ -27,7 +26,7 @@ scalar = tt
 
 -- the scalar run of input 6
 abbrev scalar6 : Input → Option Result
-scalar6 x = standingScalarRun (imageIn (x .bytes)) (symbolsIn (x .bytes)) firstInput (λ _. 0)
+scalar6 x = standingScalarRun (imageOf x) (symbolsOf x) firstInput (λ _. 0)
 
 -- what is accepted is a result
 result-of : (e : PredicateTransducerExecution) (n : ℕ) (t : Tested Result) → accepts (some (recordOf e n t)) ≡ true → (r : Result) × (t ≡ passed r)

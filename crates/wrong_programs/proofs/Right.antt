@@ -11,29 +11,26 @@ use Rattle.predicate_semantics.specs.declared.Rv32SymbolLayout.{Rv32SymbolLayou
 use Rattle.predicate_semantics.specs.State.{Result}
 use Rattle.predicate_semantics.specs.Refusal.{Tested, passed}
 use Rattle.predicate_semantics.specs.Refusal as Refusal
-use Rattle.predicate_semantics.specs.Lane.{LaneState, Ended}
+use Rattle.predicate_semantics.specs.Lane.{LaneState}
 use Rattle.lane_memory.specs.Rows.{rowCount}
 use Rattle.lane_record.specs.declared.WriteAnswer.{WriteAnswer}
 use Rattle.lane_record.specs.Format.{Record, encode}
 use Rattle.lane_record.specs.Answers.{Said, wrote, refuses, writeSaid, Writes}
 use Rattle.lane_record.specs.Runs.{recordIn}
 use Rattle.riscv32imc_predicate.specs.Tracking.{entryCount}
-use Rattle.riscv32imc_predicate.specs.Outcome.{executionIn, runOver}
-use Rattle.lane_library.specs.Inputs.{symbolsIn, imageIn, taken}
+use Rattle.riscv32imc_predicate.specs.Outcome.{executionIn}
+use Rattle.lane_library.specs.Inputs.{taken}
 use Rattle.lane_library.specs.Outcome.{imageRecord, imageTrace}
 use Rattle.lane_library.specs.Outcome as Library
-use Rattle.wrong_programs.specs.Inputs.{Input}
+use Rattle.wrong_programs.specs.Inputs.{Input, imageOf, symbolsOf, runAt}
 use Rattle.wrong_programs.specs.Behaviours.{Seen, noSpaceAtOnce}
 use Rattle.wrong_programs.specs.Refuted.{Suffices, NeverAtOnce, RunOutput, recordOf, seenOfRun, RunMeets, LibraryOutput, written, seenOfLibrary, LibraryMeets}
 
-abbrev endedAt : Input → Ended
-endedAt x = runOver (imageIn (x .bytes)) (symbolsIn (x .bytes)) (x .rows) (x .trace)
-
 abbrev pub recordAt : Input → Record
-recordAt x = imageRecord (imageIn (x .bytes)) (symbolsIn (x .bytes)) (x .rows) (x .trace)
+recordAt x = imageRecord (imageOf x) (symbolsOf x) (x .rows) (x .trace)
 
 abbrev pub traceAt : Input → List ℕ
-traceAt x = imageTrace (imageIn (x .bytes)) (symbolsIn (x .bytes)) (x .rows) (x .trace)
+traceAt x = imageTrace (imageOf x) (symbolsOf x) (x .rows) (x .trace)
 
 pub record Right (x : Input) (o : Seen) : Type 0 where
   pub recorded : o .recorded ≡ some (recordAt x)
@@ -48,7 +45,7 @@ record-in image symbols n entries s (Refusal.refused q) = refl
 
 pub run-right : (x : Input) (o : RunOutput) → RunMeets x o → Right x (seenOfRun o)
 run-right x o h = record {
-  recorded = ap (λ (y : Record). some y) (rw (h .result, h .completed, h .numbers) (record-in (imageIn (x .bytes)) (symbolsIn (x .bytes)) (rowCount (x .rows)) (entryCount (x .trace)) ((endedAt x) .state) ((endedAt x) .answer)));
+  recorded = ap (λ (y : Record). some y) (rw (h .result, h .completed, h .numbers) (record-in (imageOf x) (symbolsOf x) (rowCount (x .rows)) (entryCount (x .trace)) ((runAt x) .state) ((runAt x) .answer)));
   trace = h .entries;
 }
 
@@ -57,7 +54,7 @@ suffices-accepted : (x : Input) → Suffices x → noSpaceAtOnce (some (recordAt
 suffices-accepted x (r, e) =
     ap
     (λ (t : Tested Result).
-    noSpaceAtOnce (some (recordIn (imageIn (x .bytes)) (symbolsIn (x .bytes)) (rowCount (x .rows)) (entryCount (x .trace)) ((endedAt x) .state) t)))
+    noSpaceAtOnce (some (recordIn (imageOf x) (symbolsOf x) (rowCount (x .rows)) (entryCount (x .trace)) ((runAt x) .state) t)))
     e
 
 pub run-never : NeverAtOnce RunOutput seenOfRun RunMeets

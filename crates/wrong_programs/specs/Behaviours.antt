@@ -19,8 +19,7 @@ use Rattle.predicate_semantics.specs.Blank.{noExecution}
 use Rattle.lane_memory.specs.Rows.{rowCount}
 use Rattle.lane_record.specs.Format.{Record, accepted, refused}
 use Rattle.riscv32imc_predicate.specs.Tracking.{entryCount}
-use Rattle.lane_library.specs.Inputs.{symbolsIn, imageIn}
-use Rattle.wrong_programs.specs.Inputs.{Input}
+use Rattle.wrong_programs.specs.Inputs.{Input, imageOf, symbolsOf}
 
 -- what is seen of a program at an input: the record, if there is one, and the lent trace afterwards
 pub record Seen : Type 0 where
@@ -63,17 +62,17 @@ noSpaceAtOnce (some (refused f)) = (eqb (f .number) 13 || eqb (f .number) 14) &&
 -- the lane run of 250 lanes that all hold input 6
 abbrev pub copied : Input → Ended
 copied x =
-    laneRun (standing (imageIn (x .bytes)) (symbolsIn (x .bytes)))
+    laneRun (standing (imageOf x) (symbolsOf x))
     (record { inputs = replicate lanes firstInput; rows = rowCount (x .rows); entries = entryCount (x .trace) }) maxSteps
 
 -- the bytes at the entry, as many as an instruction can have
 abbrev pub firstInstruction : Input → List ℕ
-firstInstruction x = take 4 (drop ((symbolsIn (x .bytes)) .entry - imageBase) (imageIn (x .bytes)))
+firstInstruction x = take 4 (drop ((symbolsOf x) .entry - imageBase) (imageOf x))
 
 -- the same symbols, as long an image, and the same lent memory
 abbrev pub Alike : Input → Input → Type 0
 Alike x y =
-    (symbolsIn (x .bytes) ≡ symbolsIn (y .bytes)) × (length (x .bytes) ≡ length (y .bytes))
+    (symbolsOf x ≡ symbolsOf y) × (length (x .bytes) ≡ length (y .bytes))
     × (x .rows ≡ y .rows) × (x .trace ≡ y .trace) × (x .output ≡ y .output)
 
 module _ (program : Input → Seen) where

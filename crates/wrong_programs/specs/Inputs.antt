@@ -6,9 +6,12 @@ use Rattle.little_endian.specs.Number.{bytes}
 use Rattle.little_endian.specs.Pack.{total}
 use Rattle.riscv32imc.specs.Constants.{imageBase}
 use Rattle.predicate_semantics.specs.declared.Rv32SymbolLayout.{Rv32SymbolLayout}
+use Rattle.predicate_semantics.specs.Lane.{Ended}
 use Rattle.predicate_semantics.specs.Cases.{symbols, word, half, return1}
 use Rattle.predicate_semantics.specs.Trace.{stepWidths}
 use Rattle.lane_memory.specs.Rows.{rowBytes}
+use Rattle.riscv32imc_predicate.specs.Outcome.{runOver}
+use Rattle.lane_library.specs.Inputs.{symbolsIn, imageIn}
 
 -- "entry, event count address, events address (4 bytes each), then the image"
 abbrev pub inputBytes : Rv32SymbolLayout → List ℕ → List ℕ
@@ -20,6 +23,16 @@ pub record Input : Type 0 where
   pub rows : List ℕ
   pub trace : List ℕ
   pub output : List ℕ
+
+abbrev pub symbolsOf : Input → Rv32SymbolLayout
+symbolsOf x = symbolsIn (x .bytes)
+
+abbrev pub imageOf : Input → List ℕ
+imageOf x = imageIn (x .bytes)
+
+-- the run by the definition
+abbrev pub runAt : Input → Ended
+runAt x = runOver (imageOf x) (symbolsOf x) (x .rows) (x .trace)
 
 -- an image at the example's symbols, with so many rows and entries and enough output lent, all zero
 abbrev pub given : List ℕ → ℕ → ℕ → Input

@@ -16,15 +16,14 @@ use Rattle.lane_record.specs.Format.{Record, accepted, refused}
 use Rattle.lane_record.specs.Decode.{decode}
 use Rattle.lane_record.specs.Answers.{Said, done, wrote, refuses, writeSaid}
 use Rattle.riscv32imc_predicate.specs.declared.PredicateRun.{PredicateRun}
-use Rattle.riscv32imc_predicate.specs.Outcome.{resultIn, runOver, Ran}
-use Rattle.lane_library.specs.Inputs.{symbolsIn, imageIn}
+use Rattle.riscv32imc_predicate.specs.Outcome.{resultIn, Ran}
 use Rattle.lane_library.specs.Outcome.{LaneRuns}
-use Rattle.wrong_programs.specs.Inputs.{Input, returnsInput, returns1, returns0, jumpFirst, nopFirst, storesAtStop, storesBelow}
+use Rattle.wrong_programs.specs.Inputs.{Input, imageOf, symbolsOf, runAt, returnsInput, returns1, returns0, jumpFirst, nopFirst, storesAtStop, storesBelow}
 use Rattle.wrong_programs.specs.Behaviours.{Seen, noSpaceAtOnce, AcceptsAt, CopiesInput6, InventsLaterTrace, InventsWrittenBytes, RefusesWithSpaceLeft, NeverChanges, RefusesEachImage, LeavesEmpty}
 
 -- the lent rows and entries suffice for the run
 abbrev pub Suffices : Input → Type 0
-Suffices x = (r : Result) × ((runOver (imageIn (x .bytes)) (symbolsIn (x .bytes)) (x .rows) (x .trace)) .answer ≡ passed r)
+Suffices x = (r : Result) × ((runAt x) .answer ≡ passed r)
 
 -- over what a program answers and leaves, what is seen of that, and the contract
 module _ (Output : Type 0) (seen : Output → Seen) (Meets : Input → Output → Type 0) where
@@ -77,7 +76,7 @@ seenOfRun o = record {
 }
 
 abbrev pub RunMeets : Input → RunOutput → Type 0
-RunMeets x o = Ran (imageIn (x .bytes)) (symbolsIn (x .bytes)) (x .rows) (x .trace) (o .run) (o .rows) (o .trace)
+RunMeets x o = Ran (imageOf x) (symbolsOf x) (x .rows) (x .trace) (o .run) (o .rows) (o .trace)
 
 abbrev pub RunRefuted : Type 0
 RunRefuted = Refuted RunOutput seenOfRun RunMeets
@@ -88,7 +87,7 @@ abbrev pub RunPromises : Input → RunOutput → Type 0
 RunPromises x o =
     (result : Result) → resultIn (o .run) (o .trace) ≡ passed result
     → (input : ℕ) → firstInput ≤ input → input ≤ 255
-    → (others : ℕ → ℕ) → standingScalarRun (imageIn (x .bytes)) (symbolsIn (x .bytes)) input others ≡ some result
+    → (others : ℕ → ℕ) → standingScalarRun (imageOf x) (symbolsOf x) input others ≡ some result
 
 pub record PromiseRefuted : Type 0 where
   pub promised : (x : Input) (o : RunOutput) → RunMeets x o → RunPromises x o
