@@ -36,7 +36,7 @@ module _ (Output : Type 0) (seen : Output → Seen) (Meets : Input → Output �
   abbrev pub Breaks : ((Input → Seen) → Type 0) → List Input → Type 0
   Breaks Behaves inputs = (program : Input → Output) → Behaves (λ x. seen (program x)) → FailsAt program inputs
 
-  -- 4 of a single input: 13 or 14 before any step, though what is lent suffices
+  -- 4 at any one input: where what is lent suffices for the run, never 13 or 14 before any step
   abbrev pub NeverAtOnce : Type 0
   NeverAtOnce = (x : Input) → Suffices x → (o : Output) → Meets x o → noSpaceAtOnce ((seen o) .recorded) ≡ false
 
