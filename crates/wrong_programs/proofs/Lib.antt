@@ -2,3 +2,4 @@
 pub mod Right
 pub mod Table
 pub mod Promise
+pub mod Possible

@@ -112,3 +112,16 @@ module _ (program : Input → Seen) where
   -- 7. "one that leaves trace and record empty": either is enough
   abbrev pub LeavesEmpty : Type 0
   LeavesEmpty = (x : Input) → ((program x) .trace ≡ x .trace) ⊎ (numbers ((program x) .recorded) ≡ noExecution)
+
+-- none of them is empty: something can be seen so
+abbrev pub Possible : ((Input → Seen) → Type 0) → Type 0
+Possible Behaves = (program : Input → Seen) × Behaves program
+
+pub record AllPossible : Type 0 where
+  pub input-6-copied : Possible CopiesInput6
+  pub trace-invented : Possible InventsLaterTrace
+  pub written-bytes-invented : Possible InventsWrittenBytes
+  pub space-left : Possible RefusesWithSpaceLeft
+  pub unchanging : Possible NeverChanges
+  pub each-image-refused : Possible RefusesEachImage
+  pub left-empty : Possible LeavesEmpty
