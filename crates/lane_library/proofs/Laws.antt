@@ -3,9 +3,9 @@ use mathlib.Core.Path.{_≡_, refl, sym, ap, _∙_, subst}
 use mathlib.Core.Bool.{Bool, true, false, _&&_}
 use mathlib.Core.Option.{Option, some}
 use mathlib.Core.List.{List, []}
-use Prim.Native.Nat.{ℕ, _≤_, _-_}
+use Prim.Native.Nat.{ℕ, _+_, _≤_, _-_}
 use native.Mathlib.Omega.{arith}
-use borrow.Author.Tests.{leb-true}
+use borrow.Author.Tests.{ltb-true}
 use lib.Dec.{leb}
 use lib.ListN.{length, take, drop, length-drop}
 use lib.Seq.{take-length}
@@ -23,7 +23,7 @@ use Rattle.lane_record.specs.declared.RecordOutcome.{RecordOutcome}
 use Rattle.lane_record.specs.declared.RecordAnswer.the-variants as recorded
 use Rattle.lane_record.specs.declared.WriteAnswer.{WriteAnswer}
 use Rattle.lane_record.specs.Format.{Record, refused}
-use Rattle.lane_record.specs.Answers.{given, Writes}
+use Rattle.lane_record.specs.Answers.{refusedOutcome, given, Writes}
 use Rattle.lane_record.specs.Runs.{refusalIn, recordIn, outcomeIn}
 use Rattle.lane_record.proofs.TestLaws.{both}
 use Rattle.lane_record.proofs.Runs.{keeps-rules}
@@ -32,16 +32,17 @@ use Rattle.riscv32imc_predicate.specs.declared.PredicateAnswer.the-variants as 
 use Rattle.riscv32imc_predicate.specs.declared.PredicateRun.{PredicateRun}
 use Rattle.riscv32imc_predicate.specs.Tracking.{entryCount}
 use Rattle.riscv32imc_predicate.specs.Outcome.{resultBy, executionIn, eventsIn, runOver, Ran}
-use Rattle.lane_library.specs.Inputs.{symbolsIn, imageIn, taken}
-use Rattle.lane_library.specs.Outcome.{answerOf, outcomeOf, sizeRefusal, refusedInput, imageRecord, imageTrace, recordBy, traceBy, Gives, Promise, LaneRuns}
+use Rattle.lane_library.specs.Inputs.{symbolBytes, programImageBytes, symbolsIn, imageIn, taken}
+use Rattle.lane_library.specs.Outcome.{answerOf, outcomeOf, sizeRefusal, imageRecord, imageTrace, recordBy, traceBy, Gives, Promise, ImageRuns, LaneRuns}
 use Rattle.lane_library.proofs.Promise.{promise-run, promise-refused}
 
-pub taken-least : (input : List ℕ) → taken input ≡ true → 12 ≤ length input
-taken-least input e = let l = leb-true 13 (length input) (both (leb 13 (length input)) (leb (length input) 32780) e .0) in omega (arith, l)
+pub taken-least : (input : List ℕ) → taken input ≡ true → symbolBytes ≤ length input
+taken-least input e =
+    let l = ltb-true symbolBytes (length input) (both _ (leb (length input) (symbolBytes + programImageBytes)) e .0) in omega (arith, l)
 
 -- the image is the part of the input after its symbols
-pub image-part : (input : List ℕ) → take (length input - 12) (drop 12 input) ≡ imageIn input
-image-part input = ap (λ (n : ℕ). take n (drop 12 input)) (sym (length-drop 12 input)) ∙ take-length (drop 12 input)
+pub image-part : (input : List ℕ) → take (length input - symbolBytes) (drop symbolBytes input) ≡ imageIn input
+image-part input = ap (λ (n : ℕ). take n (imageIn input)) (sym (length-drop symbolBytes input)) ∙ take-length (imageIn input)
 
 module _ (image : List ℕ) (symbols : Rv32SymbolLayout) (n entries : ℕ) (s : LaneState) (lent : List ℕ) where
   -- answer, numbers and events are those of the lane run's answer t
@@ -81,17 +82,20 @@ module _ (image : List ℕ) (symbols : Rv32SymbolLayout) (rows trace : List ℕ)
       ∙ keeps-rules image symbols (rowCount rows) (entryCount trace) trace
 
   -- what the writer is given of a run is its record: never 15
-  pub gives-run : (o : RecordOutcome) (output : List ℕ) (w : WriteAnswer) (output′ : List ℕ)
+  pub image-runs : (o : RecordOutcome) (output : List ℕ) (w : WriteAnswer) (output′ : List ℕ)
       → o ≡ outcomeOf r → Writes (given o trace′) output w output′
-      → Gives (imageRecord image symbols rows trace) rows output w rows′ output′
-  gives-run o output w output′ p v = record {
-    writes = subst (λ (q : Option Record). Writes q output w output′) (ap (λ (x : RecordOutcome). given x trace′) p ∙ given-run) v;
-    zero = h .zero;
-  }
+      → ImageRuns image symbols rows trace output w rows′ trace′ output′
+  image-runs o output w output′ p v =
+      let writes = subst (λ (q : Option Record). Writes q output w output′) (ap (λ (x : RecordOutcome). given x trace′) p ∙ given-run) v in
+      record {
+        gives = record { writes = writes; zero = h .zero };
+        entries = h .entries;
+        promise = promise-run image symbols (rowCount rows) (entryCount trace) output w output′ writes;
+      }
 
 -- refusal 1 keeps the rules, whatever the trace
 pub gives-refusal : (rows rows′ : List ℕ) (o : RecordOutcome) (t output : List ℕ) (w : WriteAnswer) (output′ : List ℕ)
-    → rows′ ≡ cleared rows → o ≡ refusedInput → Writes (given o t) output w output′
+    → rows′ ≡ cleared rows → o ≡ refusedOutcome sizeRefusal → Writes (given o t) output w output′
     → Gives (refused sizeRefusal) rows output w rows′ output′
 gives-refusal rows rows′ o t output w output′ z p v = record {
   writes = subst (λ (x : RecordOutcome). Writes (given x t) output w output′) p v;
@@ -111,20 +115,14 @@ module _ (input rows trace output : List ℕ) (w : WriteAnswer) (rows′ trace�
   -- one that it takes
   pub runs-taken : true ≡ taken input
       → (image : List ℕ) (symbols : Rv32SymbolLayout) → image ≡ imageIn input → symbols ≡ symbolsIn input
-      → Gives (imageRecord image symbols rows trace) rows output w rows′ output′
-      → trace′ ≡ imageTrace image symbols rows trace
+      → ImageRuns image symbols rows trace output w rows′ trace′ output′
       → LaneRuns input rows trace output w rows′ trace′ output′
-  runs-taken p image symbols i s g t = record {
-    gives =
-        subst (λ (b : Bool). Gives (recordBy b input rows trace) rows output w rows′ output′) p
-        (subst (λ (y : Rv32SymbolLayout). Gives (imageRecord (imageIn input) y rows trace) rows output w rows′ output′) s
-        (subst (λ (x : List ℕ). Gives (imageRecord x symbols rows trace) rows output w rows′ output′) i g));
-    entries =
-        subst (λ (b : Bool). trace′ ≡ traceBy b input rows trace) p
-        (subst (λ (y : Rv32SymbolLayout). trace′ ≡ imageTrace (imageIn input) y rows trace) s
-        (subst (λ (x : List ℕ). trace′ ≡ imageTrace x symbols rows trace) i t));
-    promise =
-        subst (λ (y : Rv32SymbolLayout). Promise (imageIn input) y w output′) s
-        (subst (λ (x : List ℕ). Promise x symbols w output′) i
-        (promise-run image symbols (rowCount rows) (entryCount trace) output w output′ (g .writes)));
-  }
+  runs-taken p image symbols i s h =
+      let q : ImageRuns (imageIn input) (symbolsIn input) rows trace output w rows′ trace′ output′ =
+      subst (λ (y : Rv32SymbolLayout). ImageRuns (imageIn input) y rows trace output w rows′ trace′ output′) s
+      (subst (λ (x : List ℕ). ImageRuns x symbols rows trace output w rows′ trace′ output′) i h) in
+      record {
+        gives = subst (λ (b : Bool). Gives (recordBy b input rows trace) rows output w rows′ output′) p (q .gives);
+        entries = subst (λ (b : Bool). trace′ ≡ traceBy b input rows trace) p (q .entries);
+        promise = q .promise;
+      }

@@ -1,4 +1,5 @@
--- Laws that the answers for the functions cite, and the promise on the bytes that are written.
+-- Laws that the answers for the functions cite, the promise on the bytes that are written, and what holds of the C boundary's pair.
 pub mod Promise
 pub mod Laws
 pub mod WordLaws
+pub mod Boundary

@@ -3,7 +3,7 @@ use mathlib.Core.Path.{_≡_, refl, sym, ap, _∙_, subst}
 use mathlib.Core.Bool.{Bool, true, false, cond}
 use mathlib.Core.Option.{Option, some}
 use mathlib.Core.List.{List}
-use Prim.Native.Nat.{ℕ, _≤_, _*_}
+use Prim.Native.Nat.{ℕ, _+_, _≤_, _<_, _*_}
 use native.Mathlib.Omega.{arith}
 use borrow.Author.Tests.{leb-true}
 use lib.Dec.{leb}
@@ -11,6 +11,7 @@ use lib.ListN.{length, take, drop}
 use lib.Seq.{take-append-seam}
 use Rattle.little_endian.specs.Lent.{over}
 use Rattle.riscv32imc.specs.Constants.{maxSteps}
+use Rattle.lane_word.specs.Word.{firstInput, lanes}
 use Rattle.predicate_semantics.specs.declared.PredicateTransducerExecution.{PredicateTransducerExecution}
 use Rattle.predicate_semantics.specs.declared.PredicateControlStep.{PredicateControlStep}
 use Rattle.predicate_semantics.specs.declared.Rv32SymbolLayout.{Rv32SymbolLayout}
@@ -98,10 +99,10 @@ module _ (image : List ℕ) (symbols : Rv32SymbolLayout) (rows entries : ℕ) wh
   answered : (a : Tested Result) → e .answer ≡ a
       → (t : List ℕ) (g : RecordReading) (t′ : List ℕ) → Reads (some (recordIn image symbols rows entries s a)) t g t′
       → readSaid (g .answer) ≡ done → g .outcome .answer ≡ recorded.Accepted
-      → (i : ℕ) → 6 ≤ i → i ≤ 255
+      → (i : ℕ) → firstInput ≤ i → i < firstInput + lanes
       → (others : ℕ → ℕ) → standingScalarRun image symbols i others ≡ some (resultRead (g .outcome) t′)
   answered (passed r) q t g t′ h d a i low high others =
-      guarantee image symbols rows entries r q i low high others
+      guarantee image symbols rows entries r q i (omega arith) (omega arith) others
       ∙ ap (λ (x : Result). some x)
       (sym (read-by r q t (leb (numbers r q t .«symbolic_transitions» * 13) (length t)) (g .outcome) t′ (sym d ∙ h .answer) (h .outcome) (h .trace)))
   answered (Refusal.refused f) q t g t′ h d a i low high others =

@@ -1,21 +1,23 @@
--- What stands at the C boundary: an answer as a number, and an outcome as words.
+-- What stands at the C boundary: an answer as a number, and an outcome as words (include/lane.h).
 use mathlib.Core.Path.{_≡_}
-use mathlib.Core.Bool.{cond}
+use mathlib.Core.Bool.{Bool, true, false, cond, _&&_, _||_}
 use mathlib.Core.List.{List, [], _∷_, _++_}
-use Prim.Native.Nat.{ℕ, zero, suc}
-use lib.Dec.{eqb, leb}
-use lib.ListN.{getD, drop}
-use lib.Seq.{sets}
+use mathlib.Core.Option.{Option, none}
+use Prim.Native.Nat.{ℕ, zero, suc, _+_, _*_, _^_, _≤_}
+use lib.Dec.{eqb, ltb}
+use lib.ListN.{length, getD, drop}
+use Rattle.little_endian.specs.Number.{AllBytes}
+use Rattle.little_endian.specs.Pack.{Fits}
+use Rattle.little_endian.specs.Lent.{over}
 use Rattle.predicate_semantics.specs.declared.CompiledMmioEvent.{CompiledMmioEvent}
-use Rattle.predicate_semantics.specs.declared.PredicateTransducerExecution.{PredicateTransducerExecution}
-use Rattle.lane_record.specs.declared.RecordRefusal.{RecordRefusal}
+use Rattle.predicate_semantics.specs.Blank.{noEvents}
 use Rattle.lane_record.specs.declared.RecordAnswer.{RecordAnswer}
 use Rattle.lane_record.specs.declared.RecordAnswer.the-variants as recorded
 use Rattle.lane_record.specs.declared.RecordOutcome.{RecordOutcome}
-use Rattle.lane_record.specs.declared.RecordReading.{RecordReading}
 use Rattle.lane_record.specs.declared.WriteAnswer.{WriteAnswer}
-use Rattle.lane_record.specs.Format.{executionValues, eventValues, eventOf}
-use Rattle.lane_record.specs.Answers.{Said, wrote, done, refuses, readSaid, writeSaid}
+use Rattle.lane_record.specs.Format.{heading, event, refusal, mark, widths, Record, executionValues, executionOf, eventValues, eventOf, refusalValues, refusalOf}
+use Rattle.lane_record.specs.Decode.{decode}
+use Rattle.lane_record.specs.Answers.{Said, wrote, done, refuses, writeSaid, noOutcome, readAnswer, readOutcome, readTrace, given, Writes}
 
 -- 0, or the number of a refusal
 abbrev pub code : Said → ℕ
@@ -36,59 +38,104 @@ pub record Coded (holds : WriteAnswer → Type 0) (r written : ℕ) : Type 0 whe
   pub code-is : r ≡ code (writeSaid answer)
   pub count-is : written ≡ count (writeSaid answer)
 
+-- ---- an outcome as words
+
+-- where the first item's fields begin, after a kind and a refusal's numbers; where the events do; and how many words there are
+abbrev pub headingAt : ℕ
+headingAt = 1 + length (widths refusal)
+
+abbrev pub eventsAt : ℕ
+eventsAt = headingAt + length (widths heading)
+
+abbrev pub outcomeSize : ℕ
+outcomeSize = eventsAt + length noEvents * length (widths event)
+
 -- kind as a record's first byte has it, then a refusal's number, role and completed steps
 abbrev pub answerWords : RecordAnswer → List ℕ
-answerWords recorded.Accepted = 0x01 ∷ 0 ∷ 0 ∷ 0 ∷ []
-answerWords (recorded.Refused f) = 0x7F ∷ f .number ∷ f .role ∷ f .steps ∷ []
+answerWords recorded.Accepted = mark heading ∷ 0 ∷ 0 ∷ 0 ∷ []
+answerWords (recorded.Refused f) = mark refusal ∷ refusalValues f
 
 -- four words each
 abbrev pub eventWords : List CompiledMmioEvent → List ℕ
 eventWords [] = []
 eventWords (e ∷ es) = eventValues e ++ eventWords es
 
--- lent words with an outcome at their start: the answer, the first item's fields, the events; what lies past the end is not written
-abbrev pub wordsOver : RecordOutcome → List ℕ → List ℕ
-wordsOver o l = sets (sets (sets l 0 (answerWords (o .answer))) 4 (executionValues (o .execution))) 11 (eventWords (o .events))
+-- the answer, the first item's fields, the events
+abbrev pub outcomeWords : RecordOutcome → List ℕ
+outcomeWords o = answerWords (o .answer) ++ (executionValues (o .execution) ++ eventWords (o .events))
 
--- a reading of the reader, as a number and words
-pub record CodedReading (holds : RecordReading → Type 0) (words : List ℕ) (r : ℕ) (words′ : List ℕ) : Type 0 where
-  pub reading : RecordReading
-  pub held : holds reading
-  pub code-is : r ≡ code (readSaid (reading .answer))
-  pub words-are : words′ ≡ wordsOver (reading .outcome) words
+-- the lent words after a reading: "15, 16 and the reader's 14 write nothing"
+abbrev pub wordsAfter : Said → RecordOutcome → List ℕ → List ℕ
+wordsAfter done o ws = outcomeWords o
+wordsAfter (wrote n) o ws = ws
+wordsAfter (refuses k) o ws = ws
 
--- ---- the outcome that words stand for; a word past their end is 0
+-- what lane_read_record answers and leaves, of bytes that are a record or none
+pub record ReadsWords (q : Option Record) (t ws : List ℕ) (r : ℕ) (t′ ws′ : List ℕ) : Type 0 where
+  pub answer : r ≡ code (readAnswer q (length t))
+  pub outcome : ws′ ≡ wordsAfter (readAnswer q (length t)) (readOutcome q (length t)) ws
+  pub trace : t′ ≡ readTrace q t
 
--- a number in a place whose largest is m: a larger one stands for m, which in each such place breaks the rules
-abbrev pub placed : ℕ → ℕ → ℕ
-placed m x = cond (leb x m) x m
+-- ---- the outcome that words stand for
 
--- a kind that no answer has stands for a refusal numbered 0, which breaks the rules
-abbrev pub numberFrom : ℕ → ℕ → ℕ
-numberFrom kind x = cond (eqb kind 0x7F) (placed 255 x) 0
+-- the words from a place on fit the widths, in bytes, that a record has for them
+abbrev pub fit : List ℕ → ℕ → List ℕ → Bool
+fit [] at ws = true
+fit (width ∷ widths) at ws = ltb (getD ws at 0) (256 ^ width) && fit widths (suc at) ws
 
-abbrev pub refusalFrom : List ℕ → RecordRefusal
-refusalFrom ws = record { number = numberFrom (getD ws 0 0) (getD ws 1 0); role = placed 255 (getD ws 2 0); steps = getD ws 3 0 }
+-- a kind that an answer has, and no word too large for its place
+abbrev pub formed : List ℕ → Bool
+formed ws =
+    (eqb (getD ws 0 0) (mark heading) || eqb (getD ws 0 0) (mark refusal))
+    && fit (widths refusal) 1 ws
+    && fit (widths heading) headingAt ws
 
 abbrev pub answerFrom : List ℕ → RecordAnswer
-answerFrom ws = cond (eqb (getD ws 0 0) 0x01) recorded.Accepted (recorded.Refused (refusalFrom ws))
-
-abbrev pub executionFrom : List ℕ → PredicateTransducerExecution
-executionFrom ws =
-    record {
-      «first_input» = placed 255 (getD ws 4 0);
-      «lane_count» = placed 65535 (getD ws 5 0);
-      «return_value» = getD ws 6 0;
-      «symbolic_transitions» = getD ws 7 0;
-      «lane_value_operations» = getD ws 8 0;
-      «sparse_memory_bytes» = getD ws 9 0;
-      «event_count» = placed 255 (getD ws 10 0);
-    }
+answerFrom ws = cond (eqb (getD ws 0 0) (mark heading)) recorded.Accepted (recorded.Refused (refusalOf (drop 1 ws)))
 
 -- n events, four words each
 abbrev pub eventsFrom : ℕ → List ℕ → List CompiledMmioEvent
 eventsFrom zero ws = []
 eventsFrom (suc n) ws = eventOf ws ∷ eventsFrom n (drop 4 ws)
 
+-- words that are not so formed stand for no outcome
 abbrev pub outcomeFrom : List ℕ → RecordOutcome
-outcomeFrom ws = record { answer = answerFrom ws; execution = executionFrom ws; events = eventsFrom 32 (drop 11 ws) }
+outcomeFrom ws =
+    cond (formed ws)
+    (record {
+      answer = answerFrom ws;
+      execution = executionOf (drop headingAt ws);
+      events = eventsFrom (length noEvents) (drop eventsAt ws);
+    })
+    noOutcome
+
+-- what lane_write_record answers and leaves
+abbrev pub WritesWords : List ℕ → List ℕ → List ℕ → ℕ → List ℕ → ℕ → Type 0
+WritesWords ws t out r out′ written = Coded (λ a. Writes (given (outcomeFrom ws) t) out a out′) r written
+
+-- ---- what holds of the two
+
+-- a word too large for its place, or another kind, breaks the rules, whatever they are
+abbrev pub BreaksRules : Type 0
+BreaksRules = (ws t : List ℕ) → formed ws ≡ false → given (outcomeFrom ws) t ≡ none
+
+-- an outcome's numbers fit their types
+abbrev pub FitsAnswer : RecordAnswer → Type 0
+FitsAnswer recorded.Accepted = Unit
+FitsAnswer (recorded.Refused f) = Fits (widths refusal) (refusalValues f)
+
+pub record FitsOutcome (o : RecordOutcome) : Type 0 where
+  pub answer : FitsAnswer (o .answer)
+  pub execution : Fits (widths heading) (executionValues (o .execution))
+  pub events : length (o .events) ≡ length noEvents
+
+-- an outcome's words read back as that outcome
+abbrev pub WordsBack : Type 0
+WordsBack = (o : RecordOutcome) → FitsOutcome o → outcomeFrom (outcomeWords o) ≡ o
+
+-- what lane_read_record took, lane_write_record writes again byte for byte
+abbrev pub Rewrites : Type 0
+Rewrites =
+    (bs t ws t′ ws′ : List ℕ) → AllBytes bs → ReadsWords (decode bs) t ws 0 t′ ws′
+    → (out : List ℕ) (r : ℕ) (out′ : List ℕ) (written : ℕ) → length bs ≤ length out → WritesWords ws′ t′ out r out′ written
+    → (r ≡ 0) × (written ≡ length bs) × (out′ ≡ over bs out)

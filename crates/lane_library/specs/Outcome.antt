@@ -3,12 +3,13 @@ use mathlib.Core.Path.{_≡_}
 use mathlib.Core.Bool.{Bool, true, false}
 use mathlib.Core.Option.{some}
 use mathlib.Core.List.{List}
-use Prim.Native.Nat.{ℕ, _≤_}
+use Prim.Native.Nat.{ℕ, _+_, _≤_, _<_}
 use lib.ListN.{length, take}
 use Rattle.little_endian.specs.Lent.{over}
+use Rattle.lane_word.specs.Word.{firstInput, lanes}
 use Rattle.predicate_semantics.specs.declared.Rv32SymbolLayout.{Rv32SymbolLayout}
 use Rattle.predicate_semantics.specs.State.{Result}
-use Rattle.predicate_semantics.specs.Standing.{standingScalarRun}
+use Rattle.predicate_semantics.specs.Standing.{standingLaneRun, standingScalarRun}
 use Rattle.predicate_semantics.specs.Trace.{traceBytes, stepsAt}
 use Rattle.lane_memory.specs.Rows.{rowCount, cleared}
 use Rattle.lane_access.specs.Answers.{refusalOf}
@@ -20,7 +21,7 @@ use Rattle.lane_record.specs.declared.RecordReading.{RecordReading}
 use Rattle.lane_record.specs.declared.WriteAnswer.{WriteAnswer}
 use Rattle.lane_record.specs.Format.{Record, refused}
 use Rattle.lane_record.specs.Decode.{decode}
-use Rattle.lane_record.specs.Answers.{wrote, done, readSaid, writeSaid, refusedOutcome, Reads, Writes}
+use Rattle.lane_record.specs.Answers.{wrote, done, readSaid, writeSaid, Reads, Writes}
 use Rattle.lane_record.specs.Runs.{recordIn}
 use Rattle.riscv32imc_predicate.specs.declared.PredicateAnswer.{PredicateAnswer}
 use Rattle.riscv32imc_predicate.specs.declared.PredicateAnswer.the-variants as answer
@@ -42,16 +43,17 @@ outcomeOf r = record { answer = answerOf (r .answer) (r .steps); execution = r .
 abbrev pub sizeRefusal : RecordRefusal
 sizeRefusal = record { number = 1; role = 0; steps = 0 }
 
-abbrev pub refusedInput : RecordOutcome
-refusedInput = refusedOutcome sizeRefusal
-
 -- ---- the record, and the lent memory after it
 
--- the record of an image's run over the whole rows and entries that are lent
+-- the record of an image's run with so many rows and entries
+abbrev pub runRecord : List ℕ → Rv32SymbolLayout → ℕ → ℕ → Record
+runRecord image symbols rows entries =
+    recordIn image symbols rows entries
+    ((standingLaneRun image symbols rows entries) .state) ((standingLaneRun image symbols rows entries) .answer)
+
+-- over the whole rows and entries that are lent
 abbrev pub imageRecord : List ℕ → Rv32SymbolLayout → List ℕ → List ℕ → Record
-imageRecord image symbols rows trace =
-    recordIn image symbols (rowCount rows) (entryCount trace)
-    ((runOver image symbols rows trace) .state) ((runOver image symbols rows trace) .answer)
+imageRecord image symbols rows trace = runRecord image symbols (rowCount rows) (entryCount trace)
 
 -- "Trace entries of completed steps stay, later ones are untouched"
 abbrev pub imageTrace : List ℕ → Rv32SymbolLayout → List ℕ → List ℕ → List ℕ
@@ -89,10 +91,16 @@ Promise image symbols r output =
     (n : ℕ) → writeSaid r ≡ wrote n
     → (t : List ℕ) (reading : RecordReading) (t′ : List ℕ) → Reads (decode (take n output)) t reading t′
     → readSaid (reading .answer) ≡ done → reading .outcome .answer ≡ recorded.Accepted
-    → (i : ℕ) → 6 ≤ i → i ≤ 255
+    → (i : ℕ) → firstInput ≤ i → i < firstInput + lanes
     → (others : ℕ → ℕ) → standingScalarRun image symbols i others ≡ some (resultRead (reading .outcome) t′)
 
--- the one outcome for each input, and every lent byte after it
+-- the one outcome for each image and its symbols, and every lent byte after it
+pub record ImageRuns (image : List ℕ) (symbols : Rv32SymbolLayout) (rows trace output : List ℕ) (r : WriteAnswer) (rows′ trace′ output′ : List ℕ) : Type 0 where
+  pub gives : Gives (imageRecord image symbols rows trace) rows output r rows′ output′
+  pub entries : trace′ ≡ imageTrace image symbols rows trace
+  pub promise : Promise image symbols r output′
+
+-- the one outcome for each input of the program's, and every lent byte after it
 pub record LaneRuns (input rows trace output : List ℕ) (r : WriteAnswer) (rows′ trace′ output′ : List ℕ) : Type 0 where
   pub gives : Gives (recordBy (taken input) input rows trace) rows output r rows′ output′
   pub entries : trace′ ≡ traceBy (taken input) input rows trace

@@ -1,13 +1,15 @@
-// The library for programs in other languages: numbers and byte slices only. include/lane.h declares these functions.
+// The library for programs in other languages: numbers, byte slices and words only. include/lane.h declares these functions.
 use super::from_words::outcome_from;
-use super::words::put_outcome;
+use super::words::OUTCOME_WORDS;
+use super::words::words_of;
 use lane_record::ReadAnswer;
 use lane_record::WriteAnswer;
+use predicate_semantics::Rv32SymbolLayout;
 ghost use mathlib.Core.Path.{_≡_};
 ghost use Rattle.lane_record.specs.Decode.{decode};
-ghost use Rattle.lane_record.specs.Answers.{readSaid, writeSaid, given, Reads, Writes};
-ghost use Rattle.lane_library.specs.Outcome.{LaneRuns};
-ghost use Rattle.lane_library.specs.Boundary.{code, count, outcomeFrom, Coded, CodedReading};
+ghost use Rattle.lane_record.specs.Answers.{readSaid, writeSaid, given, Writes};
+ghost use Rattle.lane_library.specs.Outcome.{LaneRuns, ImageRuns};
+ghost use Rattle.lane_library.specs.Boundary.{code, count, outcomeFrom, Coded, ReadsWords, WritesWords};
 
 fn code_of(answer: WriteAnswer) -> u32
     ensures { λ r. ⌜ r ≡ code (writeSaid answer) ⌝ }
@@ -44,6 +46,29 @@ pub extern "C" fn lane_run(
     code_of(answer)
 }
 
+#[no_mangle]
+pub extern "C" fn lane_run_image(
+    image: &[u8],
+    entry: u32,
+    event_count: u32,
+    events: u32,
+    rows: &mut [u8],
+    trace: &mut [u8],
+    output: &mut [u8],
+    written: &mut u64,
+) -> u32
+    ensures { λ r. ⌜ Coded (λ a. ImageRuns (now (image .entry)) (record { entry = entry; «event_count» = «event_count»; events = events }) (now (rows .entry)) (now (trace .entry)) (now (output .entry)) a (now (rows .exit)) (now (trace .exit)) (now (output .exit))) r (now (written .exit)) ⌝ }
+{
+    let symbols = Rv32SymbolLayout {
+        entry: entry,
+        event_count: event_count,
+        events: events,
+    };
+    let answer = super::run_image(image, symbols, rows, trace, output);
+    *written = count_of(answer);
+    code_of(answer)
+}
+
 fn reading_code(answer: ReadAnswer) -> u32
     ensures { λ r. ⌜ r ≡ code (readSaid answer) ⌝ }
 {
@@ -55,17 +80,25 @@ fn reading_code(answer: ReadAnswer) -> u32
 }
 
 #[no_mangle]
-pub extern "C" fn lane_read_record(bytes: &[u8], trace: &mut [u8], words: &mut [u32]) -> u32
-    ensures { λ r. ⌜ CodedReading (λ g. Reads (decode (now (bytes .entry))) (now (trace .entry)) g (now (trace .exit))) (now (words .entry)) r (now (words .exit)) ⌝ }
+pub extern "C" fn lane_read_record(
+    bytes: &[u8],
+    trace: &mut [u8],
+    outcome: &mut [u32; OUTCOME_WORDS],
+) -> u32
+    ensures { λ r. ⌜ ReadsWords (decode (now (bytes .entry))) (now (trace .entry)) (now (outcome .entry)) r (now (trace .exit)) (now (outcome .exit)) ⌝ }
 {
     let reading = lane_record::read_record(bytes, trace);
-    let outcome = reading.outcome;
-    put_outcome(words, outcome);
     let answer = reading.answer;
-    reading_code(answer)
+    let read = reading.outcome;
+    let code = reading_code(answer);
+    if code != 0 {
+        return code;
+    }
+    *outcome = words_of(read);
+    code
 }
 
-fn write_words(words: &[u32], trace: &[u8], output: &mut [u8]) -> WriteAnswer
+fn write_words(words: &[u32; OUTCOME_WORDS], trace: &[u8], output: &mut [u8]) -> WriteAnswer
     ensures { λ r. ⌜ Writes (given (outcomeFrom (now (words .entry))) (now (trace .entry))) (now (output .entry)) r (now (output .exit)) ⌝ }
 {
     let outcome = outcome_from(words);
@@ -74,14 +107,14 @@ fn write_words(words: &[u32], trace: &[u8], output: &mut [u8]) -> WriteAnswer
 
 #[no_mangle]
 pub extern "C" fn lane_write_record(
-    words: &[u32],
+    outcome: &[u32; OUTCOME_WORDS],
     trace: &[u8],
     output: &mut [u8],
     written: &mut u64,
 ) -> u32
-    ensures { λ r. ⌜ Coded (λ a. Writes (given (outcomeFrom (now (words .entry))) (now (trace .entry))) (now (output .entry)) a (now (output .exit))) r (now (written .exit)) ⌝ }
+    ensures { λ r. ⌜ WritesWords (now (outcome .entry)) (now (trace .entry)) (now (output .entry)) r (now (output .exit)) (now (written .exit)) ⌝ }
 {
-    let answer = write_words(words, trace, output);
+    let answer = write_words(outcome, trace, output);
     *written = count_of(answer);
     code_of(answer)
 }

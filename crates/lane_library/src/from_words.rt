@@ -1,87 +1,134 @@
-// The outcome that words at the C boundary stand for: a word past the end of the lent ones reads as 0.
+// The outcome that words at the C boundary stand for.
+use super::words::ACCEPTED;
+use super::words::EVENT_WORDS;
+use super::words::EVENTS;
+use super::words::EVENTS_AT;
+use super::words::HEADING_AT;
+use super::words::OUTCOME_WORDS;
+use super::words::REFUSED;
 use lane_record::RecordAnswer;
 use lane_record::RecordOutcome;
 use lane_record::RecordRefusal;
 use predicate_semantics::CompiledMmioEvent;
 use predicate_semantics::PredicateTransducerExecution;
 ghost use mathlib.Core.Path.{_≡_};
-ghost use Prim.Native.Nat.{_≤_};
-ghost use lib.ListN.{getD, drop};
-ghost use Rattle.lane_record.specs.Format.{eventOf};
-ghost use Rattle.lane_library.specs.Boundary.{placed, numberFrom, refusalFrom, answerFrom, executionFrom, eventsFrom, outcomeFrom};
+ghost use mathlib.Core.Bool.{true, _&&_, _||_};
+ghost use mathlib.Core.List.{[], _∷_};
+ghost use Prim.Native.Nat.{_+_, _≤_};
+ghost use lib.Dec.{eqb};
+ghost use lib.ListN.{drop};
+ghost use Rattle.lane_record.specs.Format.{heading, refusal, mark, widths, executionOf, eventOf, refusalOf};
+ghost use Rattle.lane_library.specs.Boundary as boundary;
+ghost use Rattle.lane_library.specs.Boundary.{headingAt, eventsAt, outcomeSize, fit, answerFrom, eventsFrom, outcomeFrom};
 
-fn word(s: &[u32], at: usize) -> u32
-    ensures { λ r. ⌜ r ≡ getD (now (s .entry)) at 0 ⌝ }
+// One more than the largest number of one byte, and of two.
+const BYTE: u32 = 0x100;
+
+const TWO_BYTES: u32 = 0x1_0000;
+
+// Called where an operator would part a function's one answer into several ways to prove.
+fn and(a: bool, b: bool) -> bool
+    ensures { λ r. ⌜ r ≡ (a && b) ⌝ }
 {
-    if at < s.len() { s[at] } else { 0 }
+    a && b
 }
 
-fn byte(x: u32) -> u8
-    ensures { λ r. ⌜ r ≡ placed 255 x ⌝ }
+fn is_kind(x: u32) -> bool
+    ensures { λ r. ⌜ r ≡ (eqb x (mark heading) || eqb x (mark refusal)) ⌝ }
 {
-    if x <= 255 { x as u8 } else { 255 }
+    x == ACCEPTED || x == REFUSED
 }
 
-fn two_bytes(x: u32) -> u16
-    ensures { λ r. ⌜ r ≡ placed 65535 x ⌝ }
+// A word always fits a place of four bytes, which only its type says: so those words are named here too.
+fn refusal_fits(number: u32, role: u32, steps: u32) -> bool
+    ensures { λ r. ⌜ r ≡ fit (widths refusal) 0 (number ∷ role ∷ steps ∷ []) ⌝ }
 {
-    if x <= 65_535 { x as u16 } else { 65_535 }
+    and(number < BYTE, role < BYTE)
 }
 
-fn number_from(kind: u32, x: u32) -> u8
-    ensures { λ r. ⌜ r ≡ numberFrom kind x ⌝ }
+fn heading_fits(
+    first: u32,
+    lanes: u32,
+    value: u32,
+    steps: u32,
+    operations: u32,
+    written: u32,
+    events: u32,
+) -> bool
+    ensures { λ r. ⌜ r ≡ fit (widths heading) 0 (first ∷ lanes ∷ value ∷ steps ∷ operations ∷ written ∷ events ∷ []) ⌝ }
 {
-    if kind == 0x7F { byte(x) } else { 0 }
+    and(first < BYTE, and(lanes < TWO_BYTES, events < BYTE))
 }
 
-fn refusal_from(s: &[u32]) -> RecordRefusal
-    ensures { λ r. ⌜ r ≡ refusalFrom (now (s .entry)) ⌝ }
+fn formed(s: &[u32; OUTCOME_WORDS]) -> bool
+    ensures { λ r. ⌜ r ≡ boundary.formed (now (s .entry)) ⌝ }
+{
+    let answer = and(is_kind(s[0]), refusal_fits(s[1], s[2], s[3]));
+    and(
+        answer,
+        heading_fits(
+            s[HEADING_AT],
+            s[HEADING_AT + 1],
+            s[HEADING_AT + 2],
+            s[HEADING_AT + 3],
+            s[HEADING_AT + 4],
+            s[HEADING_AT + 5],
+            s[HEADING_AT + 6],
+        ),
+    )
+}
+
+fn refusal_from(s: &[u32; OUTCOME_WORDS]) -> RecordRefusal
+    requires { ⌜ boundary.formed (now s) ≡ true ⌝ }
+    ensures { λ r. ⌜ r ≡ refusalOf (drop 1 (now (s .entry))) ⌝ }
 {
     RecordRefusal {
-        number: number_from(word(s, 0), word(s, 1)),
-        role: byte(word(s, 2)),
-        steps: word(s, 3),
+        number: s[1] as u8,
+        role: s[2] as u8,
+        steps: s[3],
     }
 }
 
-fn answer_from(s: &[u32]) -> RecordAnswer
+fn answer_from(s: &[u32; OUTCOME_WORDS]) -> RecordAnswer
+    requires { ⌜ boundary.formed (now s) ≡ true ⌝ }
     ensures { λ r. ⌜ r ≡ answerFrom (now (s .entry)) ⌝ }
 {
-    if word(s, 0) == 0x01 {
+    if s[0] == ACCEPTED {
         return RecordAnswer::Accepted;
     }
     let refusal = refusal_from(s);
     RecordAnswer::Refused(refusal)
 }
 
-fn execution_from(s: &[u32]) -> PredicateTransducerExecution
-    ensures { λ r. ⌜ r ≡ executionFrom (now (s .entry)) ⌝ }
+fn execution_from(s: &[u32; OUTCOME_WORDS]) -> PredicateTransducerExecution
+    requires { ⌜ boundary.formed (now s) ≡ true ⌝ }
+    ensures { λ r. ⌜ r ≡ executionOf (drop headingAt (now (s .entry))) ⌝ }
 {
     PredicateTransducerExecution {
-        first_input: byte(word(s, 4)),
-        lane_count: two_bytes(word(s, 5)),
-        return_value: word(s, 6),
-        symbolic_transitions: word(s, 7),
-        lane_value_operations: word(s, 8),
-        sparse_memory_bytes: word(s, 9),
-        event_count: byte(word(s, 10)),
+        first_input: s[HEADING_AT] as u8,
+        lane_count: s[HEADING_AT + 1] as u16,
+        return_value: s[HEADING_AT + 2],
+        symbolic_transitions: s[HEADING_AT + 3],
+        lane_value_operations: s[HEADING_AT + 4],
+        sparse_memory_bytes: s[HEADING_AT + 5],
+        event_count: s[HEADING_AT + 6] as u8,
     }
 }
 
-fn event_from(s: &[u32], at: usize) -> CompiledMmioEvent
-    requires { ⌜ at ≤ 1000 ⌝ }
+fn event_from(s: &[u32; OUTCOME_WORDS], at: usize) -> CompiledMmioEvent
+    requires { ⌜ at + 4 ≤ outcomeSize ⌝ }
     ensures { λ r. ⌜ r ≡ eventOf (drop at (now (s .entry))) ⌝ }
 {
     CompiledMmioEvent {
-        operation: word(s, at),
-        offset: word(s, at + 1),
-        value: word(s, at + 2),
-        location: word(s, at + 3),
+        operation: s[at],
+        offset: s[at + 1],
+        value: s[at + 2],
+        location: s[at + 3],
     }
 }
 
-fn events_from(s: &[u32]) -> [CompiledMmioEvent; 32]
-    ensures { λ r. ⌜ r ≡ eventsFrom 32 (drop 11 (now (s .entry))) ⌝ }
+fn events_from(s: &[u32; OUTCOME_WORDS]) -> [CompiledMmioEvent; EVENTS]
+    ensures { λ r. ⌜ r ≡ eventsFrom 32 (drop eventsAt (now (s .entry))) ⌝ }
 {
     let none = CompiledMmioEvent {
         operation: 0,
@@ -89,21 +136,24 @@ fn events_from(s: &[u32]) -> [CompiledMmioEvent; 32]
         value: 0,
         location: 0,
     };
-    let mut events = [none; 32];
+    let mut events = [none; EVENTS];
     let mut k: usize = 0;
-    let mut at: usize = 11;
-    while k < 32 {
+    let mut at: usize = EVENTS_AT;
+    while k < EVENTS {
         let e = event_from(s, at);
         events[k] = e;
         k += 1;
-        at += 4;
+        at += EVENT_WORDS;
     }
     events
 }
 
-pub fn outcome_from(s: &[u32]) -> RecordOutcome
+pub fn outcome_from(s: &[u32; OUTCOME_WORDS]) -> RecordOutcome
     ensures { λ r. ⌜ r ≡ outcomeFrom (now (s .entry)) ⌝ }
 {
+    if !formed(s) {
+        return super::refused_outcome(0);
+    }
     let answer = answer_from(s);
     let execution = execution_from(s);
     let events = events_from(s);

@@ -16,14 +16,17 @@ use riscv32imc_predicate::PredicateAnswer;
 use riscv32imc_predicate::PredicateRun;
 ghost use mathlib.Core.Path.{_≡_};
 ghost use Rattle.lane_record.specs.Format.{refused};
+ghost use Rattle.lane_record.specs.Answers.{refusedOutcome};
 ghost use Rattle.lane_access.specs.Answers.{roleOf, refusalOf};
 ghost use Rattle.lane_library.specs.Inputs.{symbolsIn, taken};
-ghost use Rattle.lane_library.specs.Outcome.{answerOf, outcomeOf, refusedInput, sizeRefusal, imageRecord, imageTrace, Gives, LaneRuns};
+ghost use Rattle.lane_library.specs.Outcome.{answerOf, outcomeOf, sizeRefusal, Gives, ImageRuns, LaneRuns};
 
-// The bytes of the symbols before the image, and the largest image.
+// The bytes of the symbols before the image, the largest image, and the longest input that is taken.
 const SYMBOL_BYTES: usize = 12;
 
 const IMAGE_BYTES: usize = 32_768;
+
+pub const INPUT_BYTES: usize = SYMBOL_BYTES + IMAGE_BYTES;
 
 fn role_number(role: Role) -> u8
     ensures { λ r. ⌜ r ≡ roleOf role ⌝ }
@@ -117,8 +120,9 @@ fn outcome_of(run: PredicateRun) -> RecordOutcome
     }
 }
 
-fn refused_input() -> RecordOutcome
-    ensures { λ r. ⌜ r ≡ refusedInput ⌝ }
+// A refusal before any step, without a role.
+fn refused_outcome(number: u8) -> RecordOutcome
+    ensures { λ r. ⌜ r ≡ refusedOutcome (record { number = number; role = 0; steps = 0 }) ⌝ }
 {
     let none = CompiledMmioEvent {
         operation: 0,
@@ -136,7 +140,7 @@ fn refused_input() -> RecordOutcome
         event_count: 0,
     };
     let refusal = RecordRefusal {
-        number: 1,
+        number: number,
         role: 0,
         steps: 0,
     };
@@ -162,33 +166,33 @@ fn symbols_in(input: &[u8]) -> Rv32SymbolLayout
 fn takes(input: &[u8]) -> bool
     ensures { λ r. ⌜ r ≡ taken (now (input .entry)) ⌝ }
 {
-    SYMBOL_BYTES < input.len() && input.len() <= SYMBOL_BYTES + IMAGE_BYTES
+    SYMBOL_BYTES < input.len() && input.len() <= INPUT_BYTES
 }
 
 fn refuse_input(rows: &mut [u8], output: &mut [u8]) -> WriteAnswer
     ensures { λ r. ⌜ Gives (refused sizeRefusal) (now (rows .entry)) (now (output .entry)) r (now (rows .exit)) (now (output .exit)) ⌝ }
 {
     lane_memory::clear(rows);
-    let outcome = refused_input();
+    let outcome = refused_outcome(1);
     lane_record::write_record(outcome, b"", output)
 }
 
-fn run_image(
+// The run of an image of up to 1,048,576 bytes; any other has the record of refusal 1.
+pub fn run_image(
     image: &[u8],
     symbols: Rv32SymbolLayout,
     rows: &mut [u8],
     trace: &mut [u8],
     output: &mut [u8],
 ) -> WriteAnswer
-    ensures { λ r. ⌜ Gives (imageRecord (now (image .entry)) symbols (now (rows .entry)) (now (trace .entry))) (now (rows .entry)) (now (output .entry)) r (now (rows .exit)) (now (output .exit)) ⌝ }
-    ensures { λ r. ⌜ now (trace .exit) ≡ imageTrace (now (image .entry)) symbols (now (rows .entry)) (now (trace .entry)) ⌝ }
+    ensures { λ r. ⌜ ImageRuns (now (image .entry)) symbols (now (rows .entry)) (now (trace .entry)) (now (output .entry)) r (now (rows .exit)) (now (trace .exit)) (now (output .exit)) ⌝ }
 {
     let run = riscv32imc_predicate::execute_invalid_channel_predicate(image, symbols, rows, trace);
     let outcome = outcome_of(run);
     lane_record::write_record(outcome, trace, output)
 }
 
-// The run: every input has a record, and 16 is the one refusal besides.
+// The run of an input as the program takes it: every input has a record, and 16 is the one refusal besides.
 pub fn run_input(input: &[u8], rows: &mut [u8], trace: &mut [u8], output: &mut [u8]) -> WriteAnswer
     ensures { λ r. ⌜ LaneRuns (now (input .entry)) (now (rows .entry)) (now (trace .entry)) (now (output .entry)) r (now (rows .exit)) (now (trace .exit)) (now (output .exit)) ⌝ }
 {

@@ -1,6 +1,6 @@
 use denote.Ref.{now}
 use borrow.Author.Needs.{needs}
-use Rattle.lane_library.proofs.Laws.{gives-run}
+use Rattle.lane_library.proofs.Laws.{image-runs}
 use Rattle.lane_library.proofs.run_image.Statement.{statement}
 use Rattle.lane_library.proofs.run_image.Tie as tie
 
@@ -19,5 +19,4 @@ run-image-spec =
     let o = w .before .before .before in
     let e = o .before .before .before .before .before in
     let a = e .before .before .before .before .before .before .before .args in
-    let h = e .execute-invalid-channel-predicate .ensures in
-    (gives-run (now (a .image)) (a .symbols) (now (a .rows)) (now (a .trace)) _ _ _ h _ _ _ _ (o .outcome-of .ensures) (w .write-record .ensures), h .entries)))
+    image-runs (now (a .image)) (a .symbols) (now (a .rows)) (now (a .trace)) _ _ _ (e .execute-invalid-channel-predicate .ensures) _ _ _ _ (o .outcome-of .ensures) (w .write-record .ensures)))

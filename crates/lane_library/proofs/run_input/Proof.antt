@@ -33,8 +33,7 @@ run-input-spec =
     let r = c .before .before .before .before .before .before in
     let s = r .before .before .before .before .before in
     let a = s .before .before .before .before .before .before .before .args in
-    let h = r .run-image .ensures in
-    runs-taken (now (a .input)) (now (a .rows)) (now (a .trace)) (now (a .output)) _ _ _ _ (sym (is-taken s)) _ _ (image-part (now (a .input))) (s .symbols-in .ensures) (h .0) (h .1))
+    runs-taken (now (a .input)) (now (a .rows)) (now (a .trace)) (now (a .output)) _ _ _ _ (sym (is-taken s)) _ _ (image-part (now (a .input))) (s .symbols-in .ensures) (r .run-image .ensures))
     (λ c κs. search needs)
     (λ c. search needs)
     (λ c. search needs)

@@ -2,7 +2,8 @@ use denote.Ref.{now}
 use native.Mathlib.Omega.{arith}
 use lib.ListN.{length}
 use borrow.Author.Needs.{needs}
-use borrow.Author.Tests.{le-leb, le-ltb}
+use borrow.Author.Tests.{lt-ltb, le-ltb}
+use Rattle.lane_library.specs.Inputs.{symbolBytes}
 use Rattle.lane_library.proofs.takes.Statement.{statement}
 use Rattle.lane_library.proofs.takes.Tie as tie
 
@@ -10,6 +11,5 @@ pub takes-spec : {M : Type 1} → statement M
 takes-spec =
     tie.close
     (tie.spec
-    (λ c. search needs)
-    (λ c. let h = c .if1 .taken in rw (le-leb 13 (length (now (c .before .args .input))) (omega (arith, h))))
-    (λ c. let h = c .if1 .left in rw (le-ltb 12 (length (now (c .before .args .input))) (omega (arith, h)))))
+    (λ c. rw (lt-ltb symbolBytes (length (now (c .before .args .input))) (c .if1 .taken)))
+    (λ c. let h = c .if1 .left in rw (le-ltb symbolBytes (length (now (c .before .args .input))) (omega (arith, h)))))

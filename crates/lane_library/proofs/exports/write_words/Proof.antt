@@ -14,5 +14,5 @@ write-words-spec =
     (λ c.
     let w = c .before .before in
     let o = w .before .before in
-    let a = o .before .before .before .before .args in
+    let a = o .before .before .before .args in
     writes-from (now (a .words)) (now (a .trace)) _ _ _ _ (o .outcome-from .ensures) (w .write-record .ensures)))

@@ -1,6 +1,5 @@
-use mathlib.Core.Path.{sym, _∙_}
-use borrow.Author.Needs.{needs}
 use borrow.Author.Tests.{eq-eqb, ne-eqb}
+use borrow.Author.Needs.{needs}
 use Rattle.lane_library.proofs.from_words.answer_from.Statement.{statement}
 use Rattle.lane_library.proofs.from_words.answer_from.Tie as tie
 
@@ -8,7 +7,7 @@ pub answer-from-spec : {M : Type 1} → statement M
 answer-from-spec =
     tie.close
     (tie.spec
+    (λ c. search needs)
+    (λ c. rw (eq-eqb _ _ (c .if1 .taken)))
     (λ c κs. search needs)
-    (λ c. rw (← c .before .word .ensures, eq-eqb _ _ (c .if1 .taken)))
-    (λ c κs. search needs)
-    (λ c. rw (c .refusal-from .ensures, ne-eqb _ _ (λ e. c .before .if1 .left (c .before .before .word .ensures ∙ e)))))
+    (λ c. rw (c .refusal-from .ensures, ne-eqb _ _ (c .before .if1 .left))))
