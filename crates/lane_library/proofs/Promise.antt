@@ -2,7 +2,7 @@
 use mathlib.Core.Path.{_≡_, refl, sym, ap, _∙_, subst}
 use mathlib.Core.Bool.{Bool, true, false, cond}
 use mathlib.Core.Option.{Option, some}
-use mathlib.Core.List.{List}
+use mathlib.Core.List.{List, []}
 use Prim.Native.Nat.{ℕ, _+_, _≤_, _<_, _*_}
 use native.Mathlib.Omega.{arith}
 use borrow.Author.Tests.{leb-true}
@@ -36,7 +36,8 @@ use Rattle.lane_record.specs.Format.{Record, accepted, refused, encode}
 use Rattle.lane_record.specs.Decode.{decode}
 use Rattle.lane_record.specs.Answers.{Said, done, wrote, refuses, readSaid, writeSaid, acceptedOutcome, noOutcome, Reads, Writes}
 use Rattle.lane_record.specs.Runs.{recordIn}
-use Rattle.lane_library.specs.Outcome.{resultRead, Promise}
+use Rattle.lane_record.proofs.AnswerLaws.{length-encode}
+use Rattle.lane_library.specs.Outcome.{runRecord, recordBytes, RecordFits, resultRead, Promise}
 
 -- ---- what is written
 
@@ -96,6 +97,21 @@ module _ (image : List ℕ) (symbols : Rv32SymbolLayout) (rows entries : ℕ) wh
     read-by true o t′ d p u = rw (p, u) read-back
     read-by false o t′ d p u = let z : _≡_ {A = ℕ} 0 1 = cc in absurd (omega arith)
 
+  as-lent : setup rows entries .entries ≡ entries
+  unfolding setup
+  as-lent = refl
+
+  -- the record is no longer than its entries and 32 events make it
+  size-by : (a : Tested Result) → e .answer ≡ a → length (encode (recordIn image symbols rows entries s a)) ≤ recordBytes entries
+  size-by (passed r) q =
+      let h = ended r q [] in
+      let d = standing-completed image symbols rows entries in
+      omega (arith, length-encode (execution (standing image symbols) (setup rows entries) s r) (r .events) (r .trace), h .events, ap length (h .trace), d .counted, d .lent, as-lent)
+  size-by (Refusal.refused f) q = omega arith
+
+  pub size-fits : length (encode (runRecord image symbols rows entries)) ≤ recordBytes entries
+  size-fits = size-by (e .answer) refl
+
   answered : (a : Tested Result) → e .answer ≡ a
       → (t : List ℕ) (g : RecordReading) (t′ : List ℕ) → Reads (some (recordIn image symbols rows entries s a)) t g t′
       → readSaid (g .answer) ≡ done → g .outcome .answer ≡ recorded.Accepted
@@ -113,6 +129,9 @@ module _ (image : List ℕ) (symbols : Rv32SymbolLayout) (rows entries : ℕ) wh
       → Writes (some (recordIn image symbols rows entries s (e .answer))) output w output′ → Promise image symbols w output′
   promise-run output w output′ h n p t g t′ v d a =
       answered (e .answer) refl t g t′ (subst (λ (x : Option Record). Reads x t g t′) (decodes _ output w output′ h n p) v) d a
+
+pub record-fits : RecordFits
+record-fits image symbols rows entries = size-fits image symbols rows entries
 
 -- and of a refused input, which no reader takes for an acceptance
 pub promise-refused : (image : List ℕ) (symbols : Rv32SymbolLayout) (f : RecordRefusal) (output : List ℕ) (w : WriteAnswer) (output′ : List ℕ)

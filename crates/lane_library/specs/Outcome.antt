@@ -3,13 +3,14 @@ use mathlib.Core.Path.{_≡_}
 use mathlib.Core.Bool.{Bool, true, false}
 use mathlib.Core.Option.{some}
 use mathlib.Core.List.{List}
-use Prim.Native.Nat.{ℕ, _+_, _≤_, _<_}
+use Prim.Native.Nat.{ℕ, _+_, _*_, _≤_, _<_}
 use lib.ListN.{length, take}
 use Rattle.little_endian.specs.Lent.{over}
 use Rattle.lane_word.specs.Word.{firstInput, lanes}
 use Rattle.predicate_semantics.specs.declared.Rv32SymbolLayout.{Rv32SymbolLayout}
 use Rattle.predicate_semantics.specs.State.{Result}
 use Rattle.predicate_semantics.specs.Standing.{standingLaneRun, standingScalarRun}
+use Rattle.predicate_semantics.specs.Blank.{noEvents}
 use Rattle.predicate_semantics.specs.Trace.{traceBytes, stepsAt}
 use Rattle.lane_memory.specs.Rows.{rowCount, cleared}
 use Rattle.lane_access.specs.Answers.{refusalOf}
@@ -19,7 +20,7 @@ use Rattle.lane_record.specs.declared.RecordAnswer.the-variants as recorded
 use Rattle.lane_record.specs.declared.RecordOutcome.{RecordOutcome}
 use Rattle.lane_record.specs.declared.RecordReading.{RecordReading}
 use Rattle.lane_record.specs.declared.WriteAnswer.{WriteAnswer}
-use Rattle.lane_record.specs.Format.{Record, refused}
+use Rattle.lane_record.specs.Format.{heading, event, step, size, Record, refused, encode}
 use Rattle.lane_record.specs.Decode.{decode}
 use Rattle.lane_record.specs.Answers.{wrote, done, readSaid, writeSaid, Reads, Writes}
 use Rattle.lane_record.specs.Runs.{recordIn}
@@ -51,6 +52,15 @@ runRecord image symbols rows entries =
     recordIn image symbols rows entries
     ((standingLaneRun image symbols rows entries) .state) ((standingLaneRun image symbols rows entries) .answer)
 
+-- the longest record with so many entries, and that it is (LANE_RECORD_BYTES in include/lane.h)
+abbrev pub recordBytes : ℕ → ℕ
+recordBytes entries = size heading + length noEvents * size event + entries * size step
+
+abbrev pub RecordFits : Type 0
+RecordFits =
+    (image : List ℕ) (symbols : Rv32SymbolLayout) (rows entries : ℕ)
+    → length (encode (runRecord image symbols rows entries)) ≤ recordBytes entries
+
 -- over the whole rows and entries that are lent
 abbrev pub imageRecord : List ℕ → Rv32SymbolLayout → List ℕ → List ℕ → Record
 imageRecord image symbols rows trace = runRecord image symbols (rowCount rows) (entryCount trace)
@@ -60,9 +70,12 @@ abbrev pub imageTrace : List ℕ → Rv32SymbolLayout → List ℕ → List ℕ 
 imageTrace image symbols rows trace = over (traceBytes ((runOver image symbols rows trace) .state .trace)) trace
 
 -- the record that an input stands for: its image's, where it is one that the program takes
+abbrev pub inputRecord : Bool → List ℕ → ℕ → ℕ → Record
+inputRecord true input rows entries = runRecord (imageIn input) (symbolsIn input) rows entries
+inputRecord false input rows entries = refused sizeRefusal
+
 abbrev pub recordBy : Bool → List ℕ → List ℕ → List ℕ → Record
-recordBy true input rows trace = imageRecord (imageIn input) (symbolsIn input) rows trace
-recordBy false input rows trace = refused sizeRefusal
+recordBy taken input rows trace = inputRecord taken input (rowCount rows) (entryCount trace)
 
 abbrev pub traceBy : Bool → List ℕ → List ℕ → List ℕ → List ℕ
 traceBy true input rows trace = imageTrace (imageIn input) (symbolsIn input) rows trace
