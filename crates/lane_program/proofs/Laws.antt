@@ -1,0 +1,75 @@
+-- With the program's rows, entries and output every input's record is written, never 16. Assumes nothing.
+use mathlib.Core.Path.{_≡_, refl, sym, ap, _∙_, subst}
+use mathlib.Core.Bool.{Bool, true, false, cond}
+use mathlib.Core.List.{List}
+use mathlib.Core.Option.{some}
+use Prim.Native.Nat.{ℕ, _/_, _≤_}
+use native.Mathlib.Omega.{arith}
+use borrow.Author.Tests.{le-leb}
+use lib.Dec.{leb}
+use lib.ListN.{length}
+use Rattle.little_endian.specs.Lent.{over}
+use Rattle.little_endian.specs.Pack.{total}
+use Rattle.predicate_semantics.specs.declared.Rv32SymbolLayout.{Rv32SymbolLayout}
+use Rattle.predicate_semantics.specs.Trace.{stepWidths}
+use Rattle.lane_memory.specs.Rows.{rowBytes, rowCount}
+use Rattle.lane_record.specs.declared.WriteAnswer.{WriteAnswer}
+use Rattle.lane_record.specs.declared.WriteAnswer.the-variants.{Written}
+use Rattle.lane_record.specs.Format.{Record, encode}
+use Rattle.lane_record.specs.Answers.{Said, wrote, refuses, writeSaid}
+use Rattle.lane_record.specs.Answers as Answers
+use Rattle.riscv32imc_predicate.specs.Tracking.{entryCount}
+use Rattle.lane_library.specs.Inputs.{programRows, programEntries, symbolsIn, imageIn, taken}
+use Rattle.lane_library.specs.Outcome.{inputRecord, recordBytes, Promise, LaneRuns}
+use Rattle.lane_library.specs.Boundary.{count}
+use Rattle.lane_library.proofs.Promise.{size-fits}
+use Rattle.lane_program.specs.Program.{programRecord, Lent, Writes}
+
+fits-by : (b : Bool) (input : List ℕ) (rows entries : ℕ) → length (encode (inputRecord b input rows entries)) ≤ recordBytes entries
+fits-by true input rows entries = size-fits (imageIn input) (symbolsIn input) rows entries
+fits-by false input rows entries = omega arith
+
+-- what is written of a record that fits
+module _ (x : Record) (output : List ℕ) (w : WriteAnswer) (output′ : List ℕ) (h : Answers.Writes (some x) output w output′)
+    (l : length (encode x) ≤ length output) where
+  said : writeSaid w ≡ wrote (length (encode x))
+  said = h .answer ∙ ap (λ (b : Bool). cond {A = Said} b (wrote (length (encode x))) (refuses 16)) (le-leb _ _ l)
+
+  left : output′ ≡ over (encode x) output
+  left = h .output ∙ ap (λ (b : Bool). cond b (over (encode x) output) output) (le-leb _ _ l)
+
+-- the promise is of the bytes that are said to be written
+promised : (image : List ℕ) (symbols : Rv32SymbolLayout) (w v : WriteAnswer) (output : List ℕ) → writeSaid w ≡ writeSaid v
+    → Promise image symbols w output → Promise image symbols v output
+promised image symbols w v output e p n q = p n (e ∙ q)
+
+module _ (input rows trace output : List ℕ) (w : WriteAnswer) (rows′ trace′ output′ : List ℕ) (n : ℕ) (lent : Lent rows trace output)
+    (h : LaneRuns input rows trace output w rows′ trace′ output′) (c : n ≡ count (writeSaid w)) where
+  abbrev x : Record
+  x = programRecord input
+
+  same : inputRecord (taken input) input (rowCount rows) (entryCount trace) ≡ x
+  same =
+      ap (λ (k : ℕ). inputRecord (taken input) input (k / rowBytes) (entryCount trace)) (lent .rows-are)
+      ∙ ap (λ (k : ℕ). inputRecord (taken input) input programRows (k / total stepWidths)) (lent .entries-are)
+
+  written : Answers.Writes (some x) output w output′
+  written = subst (λ (y : Record). Answers.Writes (some y) output w output′) same (h .gives .writes)
+
+  room : length (encode x) ≤ length output
+  room = omega (arith, fits-by (taken input) input programRows programEntries, lent .room)
+
+  told : writeSaid w ≡ wrote (length (encode x))
+  told = said x output w output′ written room
+
+  sized : n ≡ length (encode x)
+  sized = c ∙ ap count told
+
+  pub writes : Writes input output n output′
+  writes = record {
+    size = sized;
+    fits = omega (arith, sized, fits-by (taken input) input programRows programEntries);
+    bytes = left x output w output′ written room;
+    promise =
+        promised (imageIn input) (symbolsIn input) w (Written n) output′ (told ∙ ap (λ (k : ℕ). wrote k) (sym sized)) (h .promise);
+  }

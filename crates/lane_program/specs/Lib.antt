@@ -1,0 +1,2 @@
+-- What the program writes of its input.
+pub mod Program

@@ -1,0 +1,70 @@
+// The program lane-run between its input and its output: what it lends to the run, and the record that it writes.
+use lane_memory::ROW_BYTES;
+use lane_record::WriteAnswer;
+use riscv32imc_predicate::ENTRY_BYTES;
+ghost use mathlib.Core.Path.{_≡_};
+ghost use Prim.Native.Nat.{_≤_};
+ghost use Rattle.lane_record.specs.Answers.{writeSaid};
+ghost use Rattle.lane_library.specs.Boundary.{count};
+ghost use Rattle.lane_program.specs.Program.{Lent, Writes, Outputs};
+
+// What the program lends.
+const ROWS: usize = 200;
+
+const ENTRIES: usize = 2_048;
+
+const ROW_SPACE: usize = ROWS * ROW_BYTES;
+
+const TRACE_SPACE: usize = ENTRIES * ENTRY_BYTES;
+
+// The items 01, 02 and 03 of a record with their byte of kind, the most events, and the longest record.
+const HEADING_BYTES: usize = 1 + 20;
+
+const EVENT_BYTES: usize = 1 + 16;
+
+const STEP_BYTES: usize = 1 + ENTRY_BYTES;
+
+const EVENTS: usize = 32;
+
+pub const RECORD_BYTES: usize = HEADING_BYTES + EVENTS * EVENT_BYTES + ENTRIES * STEP_BYTES;
+
+// One byte more than the longest input that is taken, so that a longer one is seen to be longer.
+pub const INPUT_BYTES: usize = lane_library::INPUT_BYTES + 1;
+
+// A record's bytes, and how many they are.
+pub struct ProgramOutput {
+    pub bytes: [u8; RECORD_BYTES],
+    pub count: usize,
+}
+
+fn count_of(answer: WriteAnswer) -> usize
+    ensures { λ r. ⌜ r ≡ count (writeSaid answer) ⌝ }
+{
+    match answer {
+        WriteAnswer::Written(n) => n,
+        WriteAnswer::RulesBroken => 0,
+        WriteAnswer::OutputTooShort => 0,
+    }
+}
+
+// The output is long enough for every record, so there is always one.
+fn run(input: &[u8], rows: &mut [u8], trace: &mut [u8], output: &mut [u8]) -> usize
+    requires { ⌜ Lent (now rows) (now trace) (now output) ⌝ }
+    ensures { λ r. ⌜ Writes (now (input .entry)) (now (output .entry)) r (now (output .exit)) ⌝ }
+{
+    let answer = lane_library::run_input(input, rows, trace, output);
+    count_of(answer)
+}
+
+pub fn run_program(input: &[u8]) -> ProgramOutput
+    ensures { λ r. ⌜ Outputs (now (input .entry)) r ⌝ }
+{
+    let mut rows = [0u8; ROW_SPACE];
+    let mut trace = [0u8; TRACE_SPACE];
+    let mut bytes = [0u8; RECORD_BYTES];
+    let count = run(input, &mut rows, &mut trace, &mut bytes);
+    ProgramOutput {
+        bytes: bytes,
+        count: count,
+    }
+}
