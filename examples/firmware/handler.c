@@ -1,12 +1,6 @@
 /* A handler for a jacquard controller with six channels. The run enters at handle, with the channel byte in a0. */
 #include "handler.h"
 
-struct event {
-    unsigned operation, offset, value;
-};
-
-/* The run reads these when handle returns. Memory is zero at first. Volatile, so that each event is stored before its
-   count, and the count once as a whole word: an SW at event_count is what counts an event. */
 volatile struct event events[32];
 volatile unsigned event_count;
 

@@ -3,6 +3,9 @@ use lane_record::WriteAnswer;
 use little_endian::get_u8;
 use little_endian::get_u32;
 
+// A record of 32 events and 2,048 steps.
+const RECORD_BYTES: usize = 29_237;
+
 fn say(text: &[u8], n: u32) {
     io::write_all(1, text);
     io::print_decimal(1, n as u64);
@@ -28,7 +31,7 @@ fn run(input: &mut [u8]) {
     io::read_full(0, input);
     let mut rows = [0u8; 52800];
     let mut trace = [0u8; 26624];
-    let mut output = [0u8; 2048];
+    let mut output = [0u8; RECORD_BYTES];
     let answer = lane_library::run_input(input, &mut rows, &mut trace, &mut output);
     match answer {
         WriteAnswer::Written(_) => report(&output),
@@ -54,4 +57,16 @@ fn main() {
     run_next(b"document-01");
     run_next(b"alike");
     run_next(b"unlike");
+    run_next(b"gp");
+    run_next(b"gp-mended");
+    run_next(b"branch");
+    run_next(b"branch-mended");
+    run_next(b"mulhu");
+    run_next(b"mulhu-mended");
+    run_next(b"count");
+    run_next(b"count-mended");
+    run_next(b"rows");
+    run_next(b"rows-mended");
+    run_next(b"steps");
+    run_next(b"steps-mended");
 }
