@@ -1,5 +1,11 @@
-/* The lane run and its record, for C. Link what `rt staticlib lane_library` makes, target/staticlib/liblane_library.a.
-   Lent memory must not overlap, and each pointer must be valid for its length, even where that is 0 (then any non-null pointer serves). */
+/* The lane run and its record, for C. `tools/install PREFIX` puts this header and the library where `pkg-config lane` finds them.
+
+   What is lent must not overlap, and each pointer must be valid for its length, even where that is 0 (then any non-null pointer serves).
+   The library keeps nothing between calls, allocates nothing and locks nothing: calls from several threads are independent, as long as
+   they are lent different memory. A call takes less than LANE_STACK_BYTES of stack: lane_run and lane_run_image about 76 KB, the other two
+   under 4 KB (x86-64, examples/c/stack.c).
+
+   docs/RECORD.md has the record's format and rules, docs/GUARANTEE.md what an accepted record promises. */
 #ifndef LANE_H
 #define LANE_H
 
@@ -10,45 +16,168 @@
 extern "C" {
 #endif
 
-/* Bytes of a row and of a trace entry; remainders of lent memory stay untouched. */
+/* Refusals: 1 to 14 are a run's, as its record has them; 14 to 16 are also answers of the functions below. */
+enum lane_refusal {
+    LANE_REFUSAL_IMAGE_SIZE = 1,    /* image empty or too large */
+    LANE_REFUSAL_SYMBOL = 2,        /* entry, event count or events outside memory */
+    LANE_REFUSAL_STEP_LIMIT = 3,    /* not at stop after LANE_MAX_STEPS */
+    LANE_REFUSAL_BELOW_MEMORY = 4,
+    LANE_REFUSAL_PAST_MEMORY = 5,
+    LANE_REFUSAL_UNKNOWN = 6,       /* a value that no one has set; the role says which */
+    LANE_REFUSAL_NOT_UNIFORM = 7,   /* a value that is not the same in all lanes; the role says which */
+    LANE_REFUSAL_HALFWORD = 8,
+    LANE_REFUSAL_WORD = 9,
+    LANE_REFUSAL_JUMP_TO_ZERO = 10,
+    LANE_REFUSAL_IMAGE_STORE = 11,  /* a store below the image's end */
+    LANE_REFUSAL_EVENT_COUNT = 12,  /* above LANE_MAX_EVENTS or unlike the number of recorded SWs */
+    LANE_REFUSAL_ROWS = 13,         /* too few rows lent */
+    LANE_REFUSAL_TRACE = 14,        /* too few trace entries lent */
+    LANE_REFUSAL_RULES = 15,        /* the record's rules are broken */
+    LANE_REFUSAL_OUTPUT = 16        /* output too short for the record */
+};
+
+/* Which value refusals 6 and 7 speak of. */
+enum lane_role {
+    LANE_ROLE_NONE = 0,
+    LANE_ROLE_FETCH = 1,
+    LANE_ROLE_JUMP_TARGET = 2,
+    LANE_ROLE_LOAD_ADDRESS = 3,
+    LANE_ROLE_STORE_ADDRESS = 4,
+    LANE_ROLE_BRANCH = 5,
+    LANE_ROLE_RETURN_VALUE = 6,
+    LANE_ROLE_EVENT_COUNT = 7,
+    LANE_ROLE_OPERATION = 8,
+    LANE_ROLE_OFFSET = 9,
+    LANE_ROLE_VALUE = 10
+};
+
+/* Limits. */
+#define LANE_FIRST_INPUT 6
+#define LANE_LANES 250
+#define LANE_MAX_STEPS 1000000
+#define LANE_MAX_EVENTS 32
+#define LANE_MEMORY_START UINT32_C(0x80000000)
+#define LANE_MEMORY_END UINT32_C(0x80200000)   /* the first address past it */
+#define LANE_STOP UINT32_C(0x801FFFFC)
+#define LANE_MAX_IMAGE_BYTES 1048576           /* of lane_run_image */
+#define LANE_MAX_INPUT_IMAGE_BYTES 32768       /* of lane_run and the program lane-run */
+#define LANE_SYMBOL_BYTES 12                   /* before the image in an input */
+#define LANE_MAX_INPUT_BYTES (LANE_SYMBOL_BYTES + LANE_MAX_INPUT_IMAGE_BYTES)
+#define LANE_STACK_BYTES 81920
+
+/* What is lent: a row for each distinct byte that is written, stop's LANE_MIN_ROWS included, and a trace entry for each step. Lengths are
+   bytes; what is left over of a row or an entry stays untouched. */
 #define LANE_ROW_BYTES 264
+#define LANE_MIN_ROWS 4
 #define LANE_ENTRY_BYTES 13
 
-/* Bytes of the longest record with so many trace entries lent. */
-#define LANE_RECORD_BYTES(entries) (21 + 32 * 17 + 14 * (size_t)(entries))
+/* The longest record with so many entries lent, and the record of a refused run. */
+#define LANE_RECORD_BYTES(entries) (21 + 17 * LANE_MAX_EVENTS + 14 * (size_t)(entries))
+#define LANE_REFUSED_RECORD_BYTES 7
 
-/* Runs an image and writes its record. input: entry, event count address, events address (4 bytes each, little-endian), then the image,
-   1 to 32,768 bytes; any other input has the record of refusal 1. 0: *written bytes of the record are in output, and what lies past them
-   is untouched. 16: output is too short, nothing is written there, and *written is 0. The rows are zero afterwards, and the entries of
-   completed steps stand in the trace. */
-uint32_t lane_run(const uint8_t *input, size_t input_len, uint8_t *rows, size_t rows_len, uint8_t *trace, size_t trace_len,
-                  uint8_t *output, size_t output_len, uint64_t *written);
-
-/* A record's outcome: 139 words. kind 0x01 is an accepted run, and the first event_count events count; 0x7F is a refused one, with its
-   number, role (else 0) and completed steps, and zeros after them. */
+/* An event: location is the program counter of the SW that counted it. */
 struct lane_event {
     uint32_t operation, offset, value, location;
 };
 
+/* Kinds of outcome, as a record's first byte. */
+enum lane_kind { LANE_KIND_ACCEPTED = 0x01, LANE_KIND_REFUSED = 0x7F };
+
+/* What a record says beside its steps. */
 struct lane_outcome {
-    uint32_t kind, refusal, role, completed_steps;
-    uint32_t first_input, lane_count, return_value, symbolic_transitions, lane_value_operations, sparse_memory_bytes, event_count;
-    struct lane_event events[32];
+    uint32_t kind;
+    uint32_t number, role, completed_steps;                          /* of a refused run; otherwise 0 */
+    uint32_t first_input, lanes, return_value, steps;                /* of an accepted run; otherwise 0, to the end */
+    uint32_t lane_operations, written_bytes, event_count;
+    struct lane_event events[LANE_MAX_EVENTS];                       /* the first event_count; the others are 0 */
 };
 
-#define LANE_OUTCOME_WORDS 139
+typedef char lane_outcome_has_139_words[sizeof(struct lane_outcome) == 139 * sizeof(uint32_t) ? 1 : -1];
 
-/* Reads a record. 0: words, lent as a struct lane_outcome with LANE_OUTCOME_WORDS, hold its outcome, and the trace its steps, 13 bytes each.
-   15: bytes are no record. 14: the trace is shorter than the record's steps. After 15 and 14 the trace is untouched, and words hold kind
-   0x7F and zeros. Words past words_len are not written. */
-uint32_t lane_read_record(const uint8_t *bytes, size_t bytes_len, uint8_t *trace, size_t trace_len, uint32_t *words, size_t words_len);
+/* Runs an input: entry, event count address, events address (4 bytes each, little-endian), then the image, 1 to
+   LANE_MAX_INPUT_IMAGE_BYTES. Any other input has the record of refusal 1. 0: *written bytes of the record are in output, and what lies
+   past them is untouched. LANE_REFUSAL_OUTPUT: nothing is written there, and *written is 0. In both cases the rows are zero afterwards,
+   whatever they held before, and the entries of completed steps stand in the trace, whose others are untouched. */
+uint32_t lane_run(const uint8_t *input, size_t input_len, uint8_t *rows, size_t rows_len, uint8_t *trace, size_t trace_len,
+                  uint8_t *output, size_t output_len, uint64_t *written);
 
-/* Writes the record of an outcome, words as lane_read_record gives them (those past words_len count as 0), and of the trace's first
-   symbolic_transitions entries. 0: *written bytes of the record are in output, and what lies past them is untouched. 15: outcome and trace
-   break the record's rules, as a kind that is neither 0x01 nor 0x7F does, and a number too large for its place in a record. 16: output is
-   too short. After 15 and 16 nothing is written, and *written is 0. */
-uint32_t lane_write_record(const uint32_t *words, size_t words_len, const uint8_t *trace, size_t trace_len, uint8_t *output,
-                           size_t output_len, uint64_t *written);
+/* The same of an image that stands by itself, of 1 to LANE_MAX_IMAGE_BYTES. */
+uint32_t lane_run_image(const uint8_t *image, size_t image_len, uint32_t entry, uint32_t event_count, uint32_t events, uint8_t *rows,
+                        size_t rows_len, uint8_t *trace, size_t trace_len, uint8_t *output, size_t output_len, uint64_t *written);
+
+/* Reads a record. 0: *outcome is what it says, and the trace's first entries are its steps. LANE_REFUSAL_RULES: bytes are no record.
+   LANE_REFUSAL_TRACE: the trace has fewer entries than the record has steps. After these two nothing is written. */
+uint32_t lane_read_record(const uint8_t *bytes, size_t bytes_len, uint8_t *trace, size_t trace_len, struct lane_outcome *outcome);
+
+/* Writes the record of an outcome and of the trace's first entries. 0: *written bytes of the record are in output, and what lies past them
+   is untouched. LANE_REFUSAL_RULES: outcome or trace break the record's rules, as does a number too large for its place in a record.
+   LANE_REFUSAL_OUTPUT: output is too short. After these two nothing is written, and *written is 0. */
+uint32_t lane_write_record(const struct lane_outcome *outcome, const uint8_t *trace, size_t trace_len, uint8_t *output, size_t output_len,
+                           uint64_t *written);
+
+/* A trace entry: a completed step. */
+struct lane_step {
+    uint32_t program_counter, word, length, next_program_counter;    /* word after expansion; length 2 or 4 */
+};
+
+static inline uint32_t lane_word_at(const uint8_t *bytes)
+{
+    return bytes[0] | (uint32_t)bytes[1] << 8 | (uint32_t)bytes[2] << 16 | (uint32_t)bytes[3] << 24;
+}
+
+/* The entry of this index. */
+static inline struct lane_step lane_step_at(const uint8_t *trace, size_t index)
+{
+    const uint8_t *entry = trace + LANE_ENTRY_BYTES * index;
+    struct lane_step step;
+    step.program_counter = lane_word_at(entry);
+    step.word = lane_word_at(entry + 4);
+    step.length = entry[8];
+    step.next_program_counter = lane_word_at(entry + 9);
+    return step;
+}
+
+/* A refusal in words. */
+static inline const char *lane_refusal_text(uint32_t number)
+{
+    switch (number) {
+    case LANE_REFUSAL_IMAGE_SIZE: return "image empty or too large";
+    case LANE_REFUSAL_SYMBOL: return "a symbol outside memory";
+    case LANE_REFUSAL_STEP_LIMIT: return "not at stop after 1,000,000 steps";
+    case LANE_REFUSAL_BELOW_MEMORY: return "address below memory";
+    case LANE_REFUSAL_PAST_MEMORY: return "access past the end of memory";
+    case LANE_REFUSAL_UNKNOWN: return "unknown";
+    case LANE_REFUSAL_NOT_UNIFORM: return "not uniform";
+    case LANE_REFUSAL_HALFWORD: return "halfword not accepted";
+    case LANE_REFUSAL_WORD: return "word not accepted";
+    case LANE_REFUSAL_JUMP_TO_ZERO: return "jump target 0";
+    case LANE_REFUSAL_IMAGE_STORE: return "store below the image's end";
+    case LANE_REFUSAL_EVENT_COUNT: return "event count above 32 or unlike the number of recorded SWs";
+    case LANE_REFUSAL_ROWS: return "distinct written bytes exceed the rows";
+    case LANE_REFUSAL_TRACE: return "no trace entry left";
+    case LANE_REFUSAL_RULES: return "the record's rules are broken";
+    case LANE_REFUSAL_OUTPUT: return "output too short for the record";
+    default: return "no refusal";
+    }
+}
+
+/* A role in words; empty for LANE_ROLE_NONE. */
+static inline const char *lane_role_text(uint32_t role)
+{
+    switch (role) {
+    case LANE_ROLE_FETCH: return "fetch";
+    case LANE_ROLE_JUMP_TARGET: return "jump target";
+    case LANE_ROLE_LOAD_ADDRESS: return "load address";
+    case LANE_ROLE_STORE_ADDRESS: return "store address";
+    case LANE_ROLE_BRANCH: return "branch";
+    case LANE_ROLE_RETURN_VALUE: return "return value";
+    case LANE_ROLE_EVENT_COUNT: return "event count";
+    case LANE_ROLE_OPERATION: return "operation";
+    case LANE_ROLE_OFFSET: return "offset";
+    case LANE_ROLE_VALUE: return "value";
+    default: return "";
+    }
+}
 
 #ifdef __cplusplus
 }
