@@ -1,0 +1,1 @@
+"""What the commands lane-check, lane-run and record-text share."""

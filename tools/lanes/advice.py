@@ -1,0 +1,56 @@
+"""What to do about a refusal, in a sentence (docs/REFUSALS.md has the same at more length)."""
+import re
+
+MULTIPLY = ('{name} gives the upper half of a product: the compiler made it of a 64-bit product or of a division by a constant. Keep products '
+            'to 32 bits, and divide by a variable or shift')
+UNKNOWN = {
+    1: 'code was written from a register that was never set',
+    2: 'it jumps by a register that was never set on this way',
+    3: 'it loads through {base}, which was never set on this way: at entry only zero, ra, sp and a0 are known',
+    4: 'it stores through {base}, which was never set on this way: at entry only zero, ra, sp and a0 are known',
+    5: 'it branches on a register, or on a loaded value, that was never set: at entry only zero, ra, sp and a0 are known',
+    6: 'a0 was never set on this way: let the handler return a value on every path',
+    7: 'the event count was stored from a register that was never set',
+    8: "an event's operation was stored from a register that was never set",
+    9: "an event's offset was stored from a register that was never set",
+    10: "an event's value was stored from a register that was never set"}
+UNEVEN = {
+    1: 'code was written that is not the same for all channels',
+    2: 'the jump target hangs on the channel, as in a switch by jump table or a table of functions: test the bound first',
+    3: 'the address hangs on the channel, as in a table with an entry for each: test the bound before the table is read',
+    4: 'the address hangs on the channel, as in a table with an entry for each: test the bound before the table is written',
+    5: 'the branch parts the invalid channels. Compare the channel with the bound alone, as ch < 6 or ch >= 6: ch <= 6 goes one '
+       'way for 6 and another for 7, and GCC makes it of ch < 6 ? ch : 6',
+    6: 'the return value hangs on the channel: return the same for every invalid channel',
+    7: 'the event count hangs on the channel: raise the same number of events for every invalid channel',
+    8: "an event's operation hangs on the channel: record the same for every invalid channel",
+    9: "an event's offset hangs on the channel: record the same for every invalid channel",
+    10: "an event's value hangs on the channel: record the same for every invalid channel"}
+PLAIN = {
+    1: 'an image has from 1 to 1,048,576 bytes, after 12 bytes of addresses: is the file a packed input or an ELF?',
+    2: 'entry, event count and events lie in 80000000 to 801fffff: is the file a packed input (tools/pack-firmware)?',
+    3: 'it loops, or is too long: the last steps show where',
+    4: 'only memory, 80000000 to 801fffff, can be reached: a device register is not there, and a null pointer neither',
+    5: 'only memory, 80000000 to 801fffff, can be reached: is the stack or a table too large?',
+    8: 'compile with -march=rv32imc; a halfword of zeros (unimp) is data, or memory past the code',
+    9: 'compile with -march=rv32imc, and use no CSR, system, atomic or floating-point instructions',
+    10: 'it calls or jumps through a pointer that is null',
+    11: 'the image cannot be written: place written data past its end, beginning as zero, as in examples/firmware/firmware.ld',
+    12: 'count each event by one SW of the new count at the event count: make it volatile, a whole word, stored nowhere else, '
+        'and record at most 32 events'}
+
+
+def advice(number, role, instruction, lent_rows, lent_steps):
+    """One sentence; instruction is the refused one in words, or None."""
+    if number == 13:
+        return f'lend more rows, as --rows {min(4 * max(lent_rows, 4), 2097152)}: one for each byte that is written, and four for stop'
+    if number == 14:
+        return f'lend more entries, as --steps {min(4 * max(lent_steps, 1), 1000000)}, or see in the last steps whether it loops'
+    name, base = (instruction or '').split(' ')[0], re.search(r'\((\w+)\)', instruction or '')
+    if number == 6 and base and base[1] in ('gp', 'tp'):
+        return f'it goes through {base[1]}, which is not set at entry: leave __global_pointer$ undefined when linking, or -Wl,--no-relax'
+    if number in (6, 7):
+        return (UNKNOWN if number == 6 else UNEVEN)[role].format(base=base[1] if base else 'a register')
+    if number == 9 and name.startswith('mulh'):
+        return MULTIPLY.format(name=name.upper())
+    return PLAIN[number]

@@ -1,0 +1,50 @@
+"""The proved lane run, called in the library that rt makes (include/lane.h)."""
+import collections
+import ctypes
+import struct
+
+from . import build, record
+from .command import Failure
+
+ROW, ENTRY = 264, 13
+Run = collections.namedtuple('Run', 'record outcome trace')
+
+
+class Library:
+    def __init__(self, tell):
+        path = build.shared_object(tell)
+        try:
+            library = ctypes.CDLL(path)
+            self.run_image = library.lane_run_image if hasattr(library, 'lane_run_image') else by_input(library.lane_run)
+        except (OSError, AttributeError) as why:
+            raise Failure(f'cannot load {path}: {why}') from None
+
+    def run(self, image, entry, event_count, events, rows, entries):
+        """The record of a run, its outcome, and the completed steps, also where it is refused."""
+        lent_rows, trace = lend(ROW * rows), lend(ENTRY * entries)
+        output, written = lend(21 + 17 * record.MOST_EVENTS + 14 * entries), ctypes.c_uint64()
+        words = [ctypes.c_uint32(word) for word in (entry, event_count, events)]
+        answer = self.run_image(image, ctypes.c_size_t(len(image)), *words, *sized(lent_rows), *sized(trace), *sized(output),
+                                ctypes.byref(written))
+        if answer:
+            raise Failure(f'lane_run_image answers {answer}')
+        whole = output.raw[:written.value]
+        outcome = record.outcome(whole)
+        done = outcome.steps if isinstance(outcome, record.Accepted) else outcome.completed_steps
+        return Run(whole, outcome, record.steps(trace, done))
+
+
+def by_input(lane_run):
+    """lane_run_image by lane_run, for a library without it: an image above 32,768 bytes is refused (1)."""
+    def run_image(image, size, entry, event_count, events, *lent):
+        whole = struct.pack('<3I', entry.value, event_count.value, events.value) + image
+        return lane_run(whole, ctypes.c_size_t(len(whole)), *lent)
+    return run_image
+
+
+def lend(size):
+    return ctypes.create_string_buffer(max(size, 1))
+
+
+def sized(memory):
+    return memory, ctypes.c_size_t(len(memory))

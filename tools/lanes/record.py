@@ -1,0 +1,151 @@
+"""The record: its items, its rules, and the words for its refusals (docs/RECORD.md, docs/REFUSALS.md)."""
+import collections
+import struct
+
+STOP = 0x801FFFFC
+LANES, FIRST_INPUT, MOST_STEPS, MOST_EVENTS = 250, 6, 1000000, 32
+HEADING, EVENT, STEP, REFUSAL = 0x01, 0x02, 0x03, 0x7F
+SIZES = {HEADING: 21, EVENT: 17, STEP: 14, REFUSAL: 7}
+NAMES = {HEADING: 'heading', EVENT: 'event', STEP: 'step', REFUSAL: 'refusal'}
+
+REASONS = {
+    1: 'the image is empty or too large', 2: 'a symbol lies outside memory', 3: 'not at stop after 1,000,000 steps',
+    4: 'address below memory', 5: "access past memory's end", 6: 'unknown', 7: 'not the same in all lanes', 8: 'halfword not accepted',
+    9: 'word not accepted', 10: 'jump target 0', 11: "store below the image's end",
+    12: 'event count above 32 or unlike the number of recorded SWs', 13: 'more distinct written bytes than rows lent',
+    14: 'more steps than trace entries lent'}
+ROLES = {1: 'fetch', 2: 'jump target', 3: 'load address', 4: 'store address', 5: 'branch', 6: 'return value', 7: 'event count',
+         8: 'operation', 9: 'offset', 10: 'value'}
+
+Step = collections.namedtuple('Step', 'program_counter word length next_program_counter')
+Event = collections.namedtuple('Event', 'operation offset value location')
+Accepted = collections.namedtuple('Accepted', 'first_input lanes return_value steps lane_operations written_bytes events trace')
+Refused = collections.namedtuple('Refused', 'number role completed_steps')
+
+
+def cause(number):
+    return 'caller' if number <= 2 else 'firmware' if number <= 12 else 'lender'
+
+
+def reason(number, role):
+    """A refusal in words."""
+    if not role:
+        return REASONS[number]
+    return f'{ROLES[role]} {REASONS[number]} (role {role})'
+
+
+def count(number, noun):
+    return f'{number:,} {noun}{"" if number == 1 else "s"}'
+
+
+def value(number):
+    """A word as a number, with its hexadecimal where that says more."""
+    return str(number) if number < 10 else f'{number} (0x{number:x})'
+
+
+def verdict(outcome):
+    """An outcome in a line."""
+    if isinstance(outcome, Accepted):
+        return (f'accepted: return value {value(outcome.return_value)}, {count(len(outcome.events), "event")}, '
+                f'{count(outcome.steps, "step")}')
+    return f'refused {outcome.number}: {reason(*outcome[:2])}, after {count(outcome.completed_steps, "step")}'
+
+
+def refusal_fields(refused):
+    """A refusal for JSON."""
+    return {'number': refused.number, 'reason': reason(refused.number, refused.role), 'role': refused.role,
+            'role_name': ROLES.get(refused.role), 'cause': cause(refused.number), 'completed_steps': refused.completed_steps}
+
+
+def steps(trace, number):
+    """The first entries of a trace, 13 bytes each."""
+    return [Step(*fields) for fields in struct.iter_unpack('<IIBI', bytes(trace[:13 * number]))]
+
+
+def items(record):
+    """Each item with its kind, of bytes that the reader takes."""
+    at = 0
+    while at < len(record):
+        yield record[at:at + SIZES[record[at]]]
+        at += SIZES[record[at]]
+
+
+def outcome(record):
+    """What a record says; the reader takes it."""
+    if record[0] == REFUSAL:
+        return Refused(*struct.unpack('<BBI', record[1:]))
+    heading = struct.unpack('<BHIIIIB', record[1:21])
+    start = 21 + 17 * heading[-1]
+    events = [Event(*fields[1:]) for fields in struct.iter_unpack('<B4I', record[21:start])]
+    trace = [Step(*fields[1:]) for fields in struct.iter_unpack('<BIIBI', record[start:])]
+    return Accepted(*heading[:-1], events, trace)
+
+
+# ---- the rule that bytes break, for bytes that the reader refuses (15)
+
+
+def broken_rule(record):
+    """The byte where the first broken rule of docs/RECORD.md shows, and the rule; None where all hold."""
+    if not record:
+        return 0, 'there are no bytes'
+    if record[0] not in (HEADING, REFUSAL):
+        return 0, f'a record begins with 01 or 7F, and this with {record[0]:02X}'
+    if len(record) < SIZES[record[0]]:
+        return len(record), f'the {NAMES[record[0]]} is cut short: it has {len(record)} of {SIZES[record[0]]} bytes'
+    return broken_refusal(record) if record[0] == REFUSAL else broken_heading(record) or broken_body(record)
+
+
+def broken_refusal(record):
+    number, role, done = struct.unpack('<BBI', record[1:7])
+    if not 1 <= number <= 14:
+        return 1, f'the number of a refusal is from 1 to 14, not {number}'
+    if number in (6, 7) and not 1 <= role <= 10:
+        return 2, f'the role of a refusal {number} is from 1 to 10, not {role}'
+    if number not in (6, 7) and role:
+        return 2, f'the role of a refusal {number} is 0, not {role}'
+    if done > MOST_STEPS:
+        return 3, f'completed steps are at most {MOST_STEPS:,}, not {done:,}'
+    return (7, f'{count(len(record) - 7, "byte")} after the end of the record') if len(record) > 7 else None
+
+
+def broken_heading(record):
+    first, lanes, _, done, operations, written, events = struct.unpack('<BHIIIIB', record[1:21])
+    rules = [
+        (1, first == FIRST_INPUT, f'the first input is {FIRST_INPUT}, not {first}'),
+        (2, lanes == LANES, f'the lanes are {LANES}, not {lanes}'),
+        (8, 1 <= done <= MOST_STEPS, f'the steps are from 1 to {MOST_STEPS:,}, not {done:,}'),
+        (12, operations == LANES * done, f'the lane operations are {LANES} × {done:,}, not {operations:,}'),
+        (16, 4 <= written <= 2097151, f'the written bytes are from 4 to 2,097,151, not {written:,}'),
+        (20, events <= MOST_EVENTS, f'the events are at most {MOST_EVENTS}, not {events}')]
+    return next(((at, text) for at, holds, text in rules if not holds), None)
+
+
+def broken_body(record):
+    """The events and the steps after a heading that keeps its rules."""
+    done, events, at = struct.unpack_from('<I', record, 8)[0], record[20], 21
+    expected = None
+    for k in range(events + done):
+        kind = EVENT if k < events else STEP
+        what = f'event {k + 1} of {events}' if k < events else f'step {k - events + 1:,} of {done:,}'
+        if len(record) < at + SIZES[kind]:
+            return len(record), f'cut short in {what}' if len(record) > at else f'cut short before {what}'
+        if record[at] != kind:
+            return at, f'{what} begins with {kind:02X}, not {record[at]:02X}'
+        if kind == STEP:
+            wrong = broken_step(record, at, what, expected)
+            if wrong:
+                return wrong
+            expected, = struct.unpack_from('<I', record, at + 10)
+        at += SIZES[kind]
+    if expected != STOP:
+        return at - 4, f'the last step leads to stop, {STOP:08x}, not to {expected:08x}'
+    return (at, f'{count(len(record) - at, "byte")} after the end of the record') if len(record) > at else None
+
+
+def broken_step(record, at, what, expected):
+    step = Step(*struct.unpack_from('<IIBI', record, at + 1))
+    if expected not in (None, step.program_counter):
+        return at + 1, f'{what} is at {step.program_counter:08x}, and the step before it leads to {expected:08x}'
+    if step.length not in (2, 4):
+        return at + 9, f'the length of {what} is 2 or 4, not {step.length}'
+    return None
