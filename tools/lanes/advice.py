@@ -1,8 +1,8 @@
 """What to do about a refusal, in a sentence (docs/REFUSALS.md has the same at more length)."""
 import re
 
-MULTIPLY = ('{name} gives the upper half of a product: the compiler made it of a 64-bit product or of a division by a constant. Keep products '
-            'to 32 bits, and divide by a variable or shift')
+MULTIPLY = ('{name} is the upper half of a product: GCC makes it of a 64-bit product, clang also of a division by a constant. Keep '
+            'products to 32 bits, and divide by a variable')
 UNKNOWN = {
     1: 'code was written from a register that was never set',
     2: 'it jumps by a register that was never set on this way',
@@ -19,8 +19,8 @@ UNEVEN = {
     2: 'the jump target hangs on the channel, as in a switch by jump table or a table of functions: test the bound first',
     3: 'the address hangs on the channel, as in a table with an entry for each: test the bound before the table is read',
     4: 'the address hangs on the channel, as in a table with an entry for each: test the bound before the table is written',
-    5: 'the branch parts the invalid channels. Compare the channel with the bound alone, as ch < 6 or ch >= 6: ch <= 6 goes one '
-       'way for 6 and another for 7, and GCC makes it of ch < 6 ? ch : 6',
+    5: 'the branch goes one way for some invalid channels and another way for others. Compare the channel with the bound alone, '
+       'ch < 6 or ch >= 6; ch <= 6 is true of the invalid channel 6 and false of 7, and GCC makes it of ch < 6 ? ch : 6',
     6: 'the return value hangs on the channel: return the same for every invalid channel',
     7: 'the event count hangs on the channel: raise the same number of events for every invalid channel',
     8: "an event's operation hangs on the channel: record the same for every invalid channel",

@@ -10,13 +10,14 @@ from .command import Failure, Parser, file_name, run, say, shown, write_text
 
 ROWS, STEPS = 4096, 250000
 SHOWN = 10  # steps of a refused run
-DESCRIPTION = f'''\
+A0 = 10
+DESCRIPTION = '''\
 Runs each FILE once with all invalid channels, 6 to 255, and prints a verdict a
 line: accepted, with return value, events and steps; or refused, with number,
 reason and place. FILE is an input of lane-run (tools/pack-firmware makes it) or
 a linked RV32 program, an ELF; - is standard input. The run is the proved one.
 '''
-EPILOG = f'''\
+EPILOG = '''\
 SYMBOL is a name from the ELF or an address such as 0x80001000.
 Exit status: 0 all accepted; 1 some refused; 2 an error (bad usage, a file that
 can't be read or run, a failed write).
@@ -45,7 +46,7 @@ def options():
     parser.add_argument('--steps', metavar='N', type=number(1000000), default=STEPS, help=f'steps to lend for ({STEPS:,})')
     parser.add_argument('-v', '--verbose', action='store_true', help=f'also events, the last {SHOWN} steps, and advice')
     parser.add_argument('--json', action='store_true', help='one JSON object a file, in place of the text')
-    return parser.parse()
+    return parser.parse_args()
 
 
 def starts(outcome, rows):
@@ -84,24 +85,25 @@ def place_text(checked):
         return ''
     if place.address == record.STOP:
         return ', at the end of the run'
-    names = ''.join(f' {text}' for text in (f'in {place.function}' if place.function else '', f'({place.source})' if place.source else '') if text)
-    return f', at {place.address:08x}{names}: {place.instruction or missing(checked)}'
+    function = f' in {place.function}' if place.function else ''
+    source = f' ({place.source})' if place.source else ''
+    return f', at {place.address:08x}{function}{source}: {place.instruction or missing(checked)}'
 
 
 def missing(checked):
     """Why there is no instruction in the image at the place."""
-    memory_end, trace = firmware.END, checked.run.trace
-    text = 'written code, or zeros, past the image' if firmware.BASE <= checked.place.address < memory_end else 'outside memory'
-    return f'{text}, reached from {trace[-1].program_counter:08x}' if trace else text
+    inside, trace = firmware.BASE <= checked.place.address < firmware.END, checked.run.trace
+    why = 'written code or zeros, not in the image' if inside else 'outside memory'
+    return f'{why}, reached from {trace[-1].program_counter:08x}' if trace else why
 
 
-def set_before(checked, register):
-    """The last step that set a register, in words."""
+def return_value_set(checked):
+    """The last step that set a0, in words."""
     for step in reversed(checked.run.trace):
-        if riscv.written_register(step.word) == register:
-            names = firmware.function_at(checked.firmware, step.program_counter)
-            return f'{riscv.ABI[register]} was last set at {riscv.step(step)}' + (f' in {names}' if names else '')
-    return f'{riscv.ABI[register]} was never set'
+        if riscv.written_register(step.word) == A0:
+            function = firmware.function_at(checked.firmware, step.program_counter)
+            return f'a0 was last set at {riscv.step(step)}' + (f' in {function}' if function else '')
+    return 'a0 still holds the channel'
 
 
 def details(checked, given):
@@ -115,7 +117,7 @@ def details(checked, given):
     first = len(trace) - len(trace[-SHOWN:])
     lines += [f'step {k:,}: {riscv.step(step)}' for k, step in enumerate(trace[-SHOWN:], first + 1)]
     if outcome.role == 6:
-        lines.append(set_before(checked, 10))
+        lines.append(return_value_set(checked))
     instruction = checked.place and checked.place.instruction
     return lines + [f'advice: {advice(outcome.number, outcome.role, instruction, given.rows, given.steps)}.']
 

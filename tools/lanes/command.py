@@ -1,5 +1,6 @@
 """What the commands have in common: options, reading, writing, errors."""
 import argparse
+import contextlib
 import errno
 import os
 import subprocess
@@ -12,22 +13,25 @@ class Failure(Exception):
     """An error that the command ends with: one line, status 2."""
 
 
+class ShowVersion(argparse.Action):
+    def __call__(self, parser, *_):
+        write_text(version(parser.prog) + '\n')
+        parser.exit()
+
+
 class Parser(argparse.ArgumentParser):
     """Usage errors are one line, with status 2; --version names the commit and the kit."""
 
     def __init__(self, prog, description, epilog):
         super().__init__(prog=prog, description=description, epilog=epilog, allow_abbrev=False,
                          formatter_class=argparse.RawDescriptionHelpFormatter)
-        self.add_argument('--version', action='store_true', help='print the commit and the Rattle kit, and end')
+        self.add_argument('--version', action=ShowVersion, nargs=0, help='print the commit and the Rattle kit, and end')
+
+    def print_help(self, file=None):
+        write_text(self.format_help())
 
     def error(self, message):
-        self.exit(2, f'{self.prog}: {message} (see --help)\n')
-
-    def parse(self):
-        if '--version' in sys.argv[1:sys.argv.index('--') if '--' in sys.argv else None]:
-            write_text(version(self.prog) + '\n')
-            self.exit(0)
-        return self.parse_args()
+        raise Failure(f'{message} (see --help)')
 
 
 def first_line(*words):
@@ -102,10 +106,9 @@ def forget_output():
 
 def say(prog, text):
     """A line on standard error; nothing is lost with it where that is closed."""
-    try:
-        print(f'{prog}: {text}', file=sys.stderr, flush=True)
-    except (OSError, ValueError):
-        pass
+    if sys.stderr is not None:
+        with contextlib.suppress(OSError):
+            print(f'{prog}: {text}', file=sys.stderr, flush=True)
 
 
 def run(prog, body):

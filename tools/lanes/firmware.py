@@ -1,5 +1,4 @@
 """What lane-check runs: a packed input, or a linked RV32 program, with the names of its places."""
-import bisect
 import collections
 import hashlib
 import importlib.machinery
@@ -9,7 +8,7 @@ import shutil
 import struct
 import subprocess
 
-from . import riscv
+from . import record, riscv
 from .command import Failure, read, shown
 
 Firmware = collections.namedtuple('Firmware', 'name image entry event_count events functions warnings elf file_sha256')
@@ -45,7 +44,8 @@ def load(name, chosen):
 def from_elf(elf, chosen):
     words = [chosen['entry'] or elf_entry(elf)] + [chosen[role] or name for role, name in NAMES.items()]
     whole, warnings = packer.pack(elf, *words)
-    return whole[12:], *struct.unpack('<3I', whole[:12]), functions(elf), warnings, True
+    header = packer.Header(*struct.unpack('<IIIHHHHHH', packer.piece(elf, 28, 24, 'the ELF header')))
+    return whole[12:], *struct.unpack('<3I', whole[:12]), packer.functions(packer.symbols(elf, header)), warnings, True
 
 
 def elf_entry(elf):
@@ -60,6 +60,8 @@ def from_input(contents, chosen):
     """A packed input: three addresses, then the image. One that is cut short has an empty image, which every run refuses."""
     if any(word and not word[0].isdigit() for word in chosen.values()):
         raise packer.Unfit('not an ELF, so it has no names: give addresses, as --entry 0x80000000')
+    if record.broken_rule(contents) is None:
+        raise packer.Unfit('this is the record of a run, not an input; ./record-text shows it')
     stated = struct.unpack('<3I', contents[:12].ljust(12, b'\0'))
     addresses = [int(word, 16) if word else address for word, address in zip(chosen.values(), stated)]
     if max(addresses) >> 32:
@@ -72,26 +74,10 @@ def packed(firmware):
     return struct.pack('<3I', firmware.entry, firmware.event_count, firmware.events) + firmware.image
 
 
-def functions(elf):
-    """The functions of an ELF that can be packed: (address, size, name) in order; labels of no size where they name code."""
-    found = set()
-    header = packer.Header(*struct.unpack('<IIIHHHHHH', packer.piece(elf, 28, 24, 'the ELF header')))
-    sections = packer.table(elf, '<10I', header.shoff, header.shentsize, header.shnum, 'the section headers')
-    for _, kind, _, _, offset, size, link, _, _, stride in sections:
-        if kind == 2:
-            names = packer.piece(elf, sections[link][4], sections[link][5], 'the string table') + b'\0'
-            for name, value, length, info, _, section in packer.table(elf, '<IIIBBH', offset, stride, size // stride, 'the symbol table'):
-                text = names[name:names.find(b'\0', name)].decode(errors='replace')
-                if section and info & 15 in (0, 2) and text and text[0] not in '$.':
-                    found.add((value, length if info & 15 == 2 else 0, text))
-    return sorted(found)
-
-
 def function_at(firmware, address):
     """The function that holds an address, with the offset in it, or ''."""
-    where = bisect.bisect_right(firmware.functions, (address, 1 << 32, ''))
-    for start, size, name in reversed(firmware.functions[:where]):
-        if start <= address < start + size or not size and address < BASE + len(firmware.image):
+    for start, size, name in firmware.functions:
+        if start <= address < start + size:
             return name if start == address else f'{name}+0x{address - start:x}'
     return ''
 
@@ -101,8 +87,11 @@ def source_at(firmware, address):
     tool = next(filter(None, map(shutil.which, ADDR2LINE)), None)
     if not firmware.elf or not tool or firmware.name == '-':
         return ''
-    told = subprocess.run([tool, '-s', '-e', os.path.abspath(firmware.name), f'{address:x}'], stdin=subprocess.DEVNULL,
-                          stdout=subprocess.PIPE, stderr=subprocess.DEVNULL)
+    try:
+        told = subprocess.run([tool, '-s', '-e', os.path.abspath(firmware.name), f'{address:x}'], stdin=subprocess.DEVNULL,
+                              stdout=subprocess.PIPE, stderr=subprocess.DEVNULL, timeout=20)
+    except (OSError, subprocess.TimeoutExpired):
+        return ''
     line = told.stdout.decode(errors='replace').strip().split(' (')[0]
     return '' if told.returncode or not line or '\n' in line or '?' in line else line
 

@@ -31,7 +31,8 @@ def reason(number, role):
     """A refusal in words."""
     if not role:
         return REASONS[number]
-    return f'{ROLES[role]} {REASONS[number]} (role {role})'
+    whose = "an event's " if role >= 8 else ''
+    return f'{whose}{ROLES[role]} {REASONS[number]} (role {role})'
 
 
 def count(number, noun):

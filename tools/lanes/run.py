@@ -25,7 +25,7 @@ def options():
     parser = Parser('lane-run', DESCRIPTION, EPILOG)
     parser.add_argument('file', metavar='FILE', nargs='?', default='-', type=file_name)
     parser.add_argument('-o', metavar='FILE', dest='output', type=file_name, help='where to write; standard output if not given')
-    given = parser.parse()
+    given = parser.parse_args()
     if given.output is None and sys.stdout is not None and sys.stdout.isatty():
         parser.error('a record is binary: name a file with -o, or pipe it to ./record-text')
     return given

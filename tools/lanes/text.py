@@ -27,7 +27,7 @@ def options():
     kind.add_argument('--bytes', action='store_true', help="each item's bytes before its text")
     kind.add_argument('--json', action='store_true', help='one JSON object')
     kind.add_argument('--csv', action='store_true', help='the steps as comma-separated values')
-    return parser.parse()
+    return parser.parse_args()
 
 
 # ---- the proved reader
