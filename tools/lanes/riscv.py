@@ -182,9 +182,9 @@ def fence(word, pc):
         return None
     if word == 0x8330000F:
         return 'fence.tso'
-    before, after = (''.join(letter for k, letter in enumerate('iorw') if mask >> 3 - k & 1) or 'unknown'
+    before, after = (''.join(letter for k, letter in enumerate('iorw') if mask >> 3 - k & 1)
                      for mask in (bits(word, 27, 24), bits(word, 23, 20)))
-    return 'fence' if before == after == 'iorw' else f'fence {before},{after}'
+    return f'fence {before},{after}' if before and after and (before, after) != ('iorw', 'iorw') else 'fence'
 
 
 def system(word, pc):
