@@ -16,16 +16,16 @@ UNKNOWN = {
     10: "an event's value was stored from a register that was never set"}
 UNEVEN = {
     1: 'code was written that is not the same for all channels',
-    2: 'the jump target hangs on the channel, as in a switch by jump table or a table of functions: test the bound first',
-    3: 'the address hangs on the channel, as in a table with an entry for each: test the bound before the table is read',
-    4: 'the address hangs on the channel, as in a table with an entry for each: test the bound before the table is written',
+    2: 'the jump target depends on the channel, as in a switch by jump table or a table of functions: test the bound first',
+    3: 'the address depends on the channel, as in a table with an entry for each: test the bound before the table is read',
+    4: 'the address depends on the channel, as in a table with an entry for each: test the bound before the table is written',
     5: 'the branch goes one way for some invalid channels and another way for others. Compare the channel with the bound alone, '
        'ch < 6 or ch >= 6; ch <= 6 is true of the invalid channel 6 and false of 7, and GCC makes it of ch < 6 ? ch : 6',
-    6: 'the return value hangs on the channel: return the same for every invalid channel',
-    7: 'the event count hangs on the channel: raise the same number of events for every invalid channel',
-    8: "an event's operation hangs on the channel: record the same for every invalid channel",
-    9: "an event's offset hangs on the channel: record the same for every invalid channel",
-    10: "an event's value hangs on the channel: record the same for every invalid channel"}
+    6: 'the return value depends on the channel: return the same for every invalid channel',
+    7: 'the event count depends on the channel: raise the same number of events for every invalid channel',
+    8: "an event's operation depends on the channel: record the same for every invalid channel",
+    9: "an event's offset depends on the channel: record the same for every invalid channel",
+    10: "an event's value depends on the channel: record the same for every invalid channel"}
 PLAIN = {
     1: 'an image has from 1 to 1,048,576 bytes, after 12 bytes of addresses: is the file a packed input or an ELF?',
     2: 'entry, event count and events lie in 80000000 to 801fffff: is the file a packed input (tools/pack-firmware)?',

@@ -97,12 +97,17 @@ def missing(checked):
     return f'{why}, reached from {trace[-1].program_counter:08x}' if trace else why
 
 
+def named_step(loaded, step):
+    """A step, with its function in objdump's brackets."""
+    function = firmware.function_at(loaded, step.program_counter)
+    return riscv.step(step, f' <{function}>' if function else '')
+
+
 def return_value_set(checked):
     """The last step that set a0, in words."""
     for step in reversed(checked.run.trace):
         if riscv.written_register(step.word) == A0:
-            function = firmware.function_at(checked.firmware, step.program_counter)
-            return f'a0 was last set at {riscv.step(step)}' + (f' in {function}' if function else '')
+            return f'a0 was last set at {named_step(checked.firmware, step)}'
     return 'a0 still holds the channel'
 
 
@@ -115,7 +120,7 @@ def details(checked, given):
                         f'value {record.value(event.value)}, counted at {event.location:08x}'
                         for k, event in enumerate(outcome.events, 1)]
     first = len(trace) - len(trace[-SHOWN:])
-    lines += [f'step {k:,}: {riscv.step(step)}' for k, step in enumerate(trace[-SHOWN:], first + 1)]
+    lines += [f'step {k:,}: {named_step(checked.firmware, step)}' for k, step in enumerate(trace[-SHOWN:], first + 1)]
     if outcome.role == 6:
         lines.append(return_value_set(checked))
     instruction = checked.place and checked.place.instruction

@@ -61,17 +61,17 @@ def shown(name):
     return 'standard input' if name == '-' else os.fsencode(name).decode(errors='replace')
 
 
-def read(name):
-    """All bytes of a file, or of standard input for -."""
+def read(name, most):
+    """The bytes of a file, or of standard input for -, and at most so many: a device may have no end."""
     try:
         if name != '-':
             with open(name, 'rb') as file:
-                return file.read()
+                return file.read(most)
         if sys.stdin is None:
             raise Failure('standard input is closed')
         if sys.stdin.isatty():
             raise Failure('name a FILE: standard input is a terminal (see --help)')
-        return sys.stdin.buffer.read()
+        return sys.stdin.buffer.read(most)
     except OSError as why:
         raise Failure(f'cannot read {shown(name)}: {why.strerror}') from None
 

@@ -12,6 +12,7 @@ from . import record, riscv
 from .command import Failure, read, shown
 
 Firmware = collections.namedtuple('Firmware', 'name image entry event_count events functions warnings elf file_sha256')
+MOST = 1 << 28  # bytes of a file, debugging information included
 NAMES = {'event count': 'event_count', 'events': 'events'}
 ADDR2LINE = ('riscv64-unknown-elf-addr2line', 'riscv32-unknown-elf-addr2line', 'riscv-none-elf-addr2line',
              'riscv64-linux-gnu-addr2line', 'llvm-addr2line', 'addr2line')
@@ -33,7 +34,9 @@ BASE, END = packer.BASE, packer.END
 
 def load(name, chosen):
     """A file as firmware; chosen has the options' words for entry, event count and events, or None."""
-    contents = read(name)
+    contents = read(name, MOST + 1)
+    if len(contents) > MOST:
+        raise Failure(f'{shown(name)}: above {MOST:,} bytes')
     try:
         parts = from_elf(contents, chosen) if contents[:4] == b'\x7fELF' else from_input(contents, chosen)
     except packer.Unfit as why:

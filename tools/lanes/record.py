@@ -115,7 +115,7 @@ def broken_heading(record):
         (1, first == FIRST_INPUT, f'the first input is {FIRST_INPUT}, not {first}'),
         (2, lanes == LANES, f'the lanes are {LANES}, not {lanes}'),
         (8, 1 <= done <= MOST_STEPS, f'the steps are from 1 to {MOST_STEPS:,}, not {done:,}'),
-        (12, operations == LANES * done, f'the lane operations are {LANES} × {done:,}, not {operations:,}'),
+        (12, operations == LANES * done, f'the lane operations are {LANES} for each step, {LANES * done:,}, not {operations:,}'),
         (16, 4 <= written <= 2097151, f'the written bytes are from 4 to 2,097,151, not {written:,}'),
         (20, events <= MOST_EVENTS, f'the events are at most {MOST_EVENTS}, not {events}')]
     return next(((at, text) for at, holds, text in rules if not holds), None)

@@ -87,9 +87,9 @@ def disassemble(word, pc, length=4):
     return writer and writer(word, pc) or f'.4byte 0x{word:x}'
 
 
-def step(entry):
-    """A step of a trace: address, instruction, and where it leads if that is not the next instruction."""
-    text = f'{place(entry.program_counter)}  {disassemble(entry.word, entry.program_counter, entry.length)}'
+def step(entry, name=''):
+    """A step of a trace: address and name, instruction, and where it leads if that is not the next instruction."""
+    text = f'{place(entry.program_counter)}{name}  {disassemble(entry.word, entry.program_counter, entry.length)}'
     straight = entry.next_program_counter == (entry.program_counter + entry.length) % (1 << 32)
     return text if straight else f'{text}  -> {place(entry.next_program_counter)}'
 

@@ -5,6 +5,7 @@ import sys
 from . import build
 from .command import Failure, Parser, file_name, read, run, say, write
 
+MOST = 12 + 32768 + 1  # one byte more than an input may have, so that a longer one is refused and not cut
 DESCRIPTION = '''\
 Runs an image once with all invalid channels, 6 to 255, and writes the record of
 the run (docs/RECORD.md). FILE has the addresses of entry, event count and events
@@ -33,7 +34,7 @@ def options():
 
 def body():
     given = options()
-    contents = read(given.file)  # all of it before a build: a program before this one in a pipe may be building too
+    contents = read(given.file, MOST)  # before a build: a program before this one in a pipe may be building too
     path = build.program('lane_run', lambda line: say('lane-run', line))
     try:
         ran = subprocess.run([path], input=contents, stdout=subprocess.PIPE)

@@ -8,6 +8,7 @@ from . import build, record, riscv
 from .command import Failure, Parser, file_name, read, run, say, shown, write_text
 
 BASE, END = 0x80000000, 0x80200000
+MOST = 21 + 17 * record.MOST_EVENTS + 14 * record.MOST_STEPS + 1  # one byte more than a record may have
 DESCRIPTION = '''\
 Writes a record as text: the verdict, the events, and the steps with their
 instructions as objdump writes them. Without FILE, or with -, it reads standard
@@ -77,7 +78,8 @@ def event_text(k, event):
 def lines(outcome):
     """The text of each item."""
     if isinstance(outcome, record.Refused):
-        return [f'{record.verdict(outcome)} (caused by the {record.cause(outcome.number)})']
+        more = '; ./lane-check lends more' if outcome.number in (13, 14) else ''
+        return [f'{record.verdict(outcome)} (caused by the {record.cause(outcome.number)}{more})']
     heading = f'{record.verdict(outcome)}, for every input from 6 to 255; {record.count(outcome.written_bytes, "written byte")}'
     return [heading, *(event_text(k, event) for k, event in enumerate(outcome.events, 1)),
             *(f'{k:6,}  {riscv.step(step)}' for k, step in enumerate(outcome.trace, 1))]
@@ -114,7 +116,7 @@ def as_csv(outcome):
 
 def body():
     given = options()
-    contents = read(given.file)  # all of it before a build: a program before this one in a pipe may be building too
+    contents = read(given.file, MOST)  # before a build: a program before this one in a pipe may be building too
     told = judge(contents)
     if told:
         raise Failure(f'{shown(given.file)}: {refusal(contents, told)}')
