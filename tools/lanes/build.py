@@ -81,11 +81,15 @@ def mark(product, built):
 
 
 @contextlib.contextmanager
-def alone():
-    """One build at a time: two commands of a pipe may both find something to do."""
+def alone(tell):
+    """One build at a time: two commands may both find something to do."""
     os.makedirs(STAMPS, exist_ok=True)
     with open(os.path.join(STAMPS, 'lock'), 'w') as lock:
-        fcntl.flock(lock, fcntl.LOCK_EX)
+        try:
+            fcntl.flock(lock, fcntl.LOCK_EX | fcntl.LOCK_NB)
+        except BlockingIOError:
+            tell('another command is building: waiting for it')
+            fcntl.flock(lock, fcntl.LOCK_EX)
         yield
 
 
@@ -143,7 +147,7 @@ def bring(product, name, tell, make):
     try:
         if current(product, name):
             return product
-        with alone():
+        with alone(tell):
             if not current(product, name):
                 built = digest(name)
                 make(product, name, tell)

@@ -111,6 +111,11 @@ def return_value_set(checked):
     return 'a0 still holds the channel'
 
 
+def advice_for(checked, given):
+    instruction = checked.place and checked.place.instruction
+    return advice(*checked.run.outcome[:2], instruction, given.rows, given.steps)
+
+
 def details(checked, given):
     """The lines of -v."""
     outcome, trace = checked.run.outcome, checked.run.trace
@@ -123,8 +128,7 @@ def details(checked, given):
     lines += [f'step {k:,}: {named_step(checked.firmware, step)}' for k, step in enumerate(trace[-SHOWN:], first + 1)]
     if outcome.role == 6:
         lines.append(return_value_set(checked))
-    instruction = checked.place and checked.place.instruction
-    return lines + [f'advice: {advice(outcome.number, outcome.role, instruction, given.rows, given.steps)}.']
+    return lines + [f'advice: {advice_for(checked, given)}.']
 
 
 def text(checked, given):
@@ -142,7 +146,7 @@ def place_fields(place):
                       'source': place.source or None}, 'at_end': False}
 
 
-def fields(checked):
+def fields(checked, given):
     """What --json says of a run."""
     outcome, loaded = checked.run.outcome, checked.firmware
     whole = {'file': shown(loaded.name), 'verdict': 'accepted', 'entry': loaded.entry, 'event_count': loaded.event_count,
@@ -151,7 +155,8 @@ def fields(checked):
     if isinstance(outcome, record.Accepted):
         return {**whole, 'return_value': outcome.return_value, 'steps': outcome.steps, 'written_bytes': outcome.written_bytes,
                 'events': [event._asdict() for event in outcome.events]}
-    return {**whole, 'verdict': 'refused', **record.refusal_fields(outcome), **place_fields(checked.place)}
+    return {**whole, 'verdict': 'refused', **record.refusal_fields(outcome), **place_fields(checked.place),
+            'advice': advice_for(checked, given)}
 
 
 # ---- the command
@@ -165,7 +170,7 @@ def answer(proved, name, given):
         say('lane-check', why)
         return json.dumps({'file': shown(name), 'verdict': 'error', 'message': str(why)}) + '\n' if given.json else '', 2
     status = 0 if isinstance(checked.run.outcome, record.Accepted) else 1
-    return json.dumps(fields(checked)) + '\n' if given.json else text(checked, given), status
+    return json.dumps(fields(checked, given)) + '\n' if given.json else text(checked, given), status
 
 
 def body():
