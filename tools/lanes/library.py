@@ -1,7 +1,6 @@
 """The proved lane run, called in the library that rt makes (include/lane.h)."""
 import collections
 import ctypes
-import struct
 
 from . import build, record
 from .command import Failure
@@ -14,8 +13,7 @@ class Library:
     def __init__(self, tell):
         path = build.shared_object(tell)
         try:
-            library = ctypes.CDLL(path)
-            self.run_image = library.lane_run_image if hasattr(library, 'lane_run_image') else by_input(library.lane_run)
+            self.run_image = ctypes.CDLL(path).lane_run_image
         except (OSError, AttributeError) as why:
             raise Failure(f'cannot load {path}: {why}') from None
 
@@ -32,14 +30,6 @@ class Library:
         outcome = record.outcome(whole)
         done = outcome.steps if isinstance(outcome, record.Accepted) else outcome.completed_steps
         return Run(whole, outcome, record.steps(trace, done))
-
-
-def by_input(lane_run):
-    """lane_run_image by lane_run, for a library without it: an image above 32,768 bytes is refused (1)."""
-    def run_image(image, size, entry, event_count, events, *lent):
-        whole = struct.pack('<3I', entry.value, event_count.value, events.value) + image
-        return lane_run(whole, ctypes.c_size_t(len(whole)), *lent)
-    return run_image
 
 
 def lend(size):
