@@ -14,9 +14,10 @@ from .command import Failure, ROOT, first_line
 
 TARGET = os.path.join(ROOT, 'target')
 STAMPS = os.path.join(TARGET, 'tools')
-# Seconds that a crate takes, roughly: a virtual machine with two x86-64 cores. Others take OTHER.
-SECONDS = {'lane_access': 36, 'lane_library': 79, 'lane_memory': 35, 'lane_record': 39, 'lane_run': 23, 'predicate_action': 24,
-           'record_text': 51, 'riscv32imc_predicate': 126}
+# Seconds that a crate takes on an idle x86-64 core, roughly. Others take OTHER.
+SECONDS = {'little_endian': 10, 'riscv32imc': 25, 'riscv_decode': 20, 'lane_word': 40, 'predicate_semantics': 25, 'predicate_action': 20,
+           'lane_memory': 20, 'lane_record': 25, 'lane_access': 20, 'riscv32imc_predicate': 75, 'lane_library': 45, 'lane_run': 15,
+           'record_text': 55}
 OTHER = 30
 QUIET = 1.5  # seconds that rt may take before anything is said of it
 NO_KIT = "rt, the Rattle kit's command, is not on PATH, and there is something to prove and build (README.md, Requirements)"
@@ -52,13 +53,15 @@ def sources(name):
             yield from (os.path.join(folder, file) for file in sorted(files))
 
 
+def file_digest(path):
+    with open(path, 'rb') as file:
+        return hashlib.sha256(file.read()).hexdigest()
+
+
 def digest(name):
     """One number of all sources, with their names."""
-    whole = hashlib.sha256()
-    for path in sources(name):
-        with open(path, 'rb') as file:
-            whole.update(f'{os.path.relpath(path, ROOT)} {hashlib.sha256(file.read()).hexdigest()}\n'.encode())
-    return whole.hexdigest()
+    lines = [f'{os.path.relpath(path, ROOT)} {file_digest(path)}\n' for path in sources(name)]
+    return hashlib.sha256(''.join(lines).encode()).hexdigest()
 
 
 def stamp(product):
@@ -66,18 +69,18 @@ def stamp(product):
 
 
 def current(product, name):
-    """Whether a product was built from the sources as they are, by the kit that is there."""
+    """Whether a product is the one that was built from the sources as they are, by the kit that is there."""
     try:
         with open(stamp(product)) as file:
-            built, kit = file.read().splitlines()
-    except (OSError, ValueError):
+            source, made, kit = file.read().splitlines()
+        return made == file_digest(product) and source == digest(name) and first_line('rt', 'version') in (None, kit)
+    except (FileNotFoundError, ValueError):
         return False
-    return os.path.exists(product) and built == digest(name) and first_line('rt', 'version') in (None, kit)
 
 
-def mark(product, built):
+def mark(product, source):
     with open(stamp(product), 'w') as file:
-        file.write(f'{built}\n{first_line("rt", "version")}\n')
+        file.write(f'{source}\n{file_digest(product)}\n{first_line("rt", "version")}\n')
 
 
 @contextlib.contextmanager
@@ -149,9 +152,9 @@ def bring(product, name, tell, make):
             return product
         with alone(tell):
             if not current(product, name):
-                built = digest(name)
+                source = digest(name)
                 make(product, name, tell)
-                mark(product, built)
+                mark(product, source)
     except OSError as why:
         raise Failure(f'cannot build {name}: {why.filename or "rt"}: {why.strerror}') from None
     return product

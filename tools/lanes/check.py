@@ -121,9 +121,7 @@ def details(checked, given):
     outcome, trace = checked.run.outcome, checked.run.trace
     lines = [f'warning: {warning}' for warning in checked.firmware.warnings]
     if isinstance(outcome, record.Accepted):
-        return lines + [f'event {k}: operation {record.value(event.operation)}, offset {record.value(event.offset)}, '
-                        f'value {record.value(event.value)}, counted at {event.location:08x}'
-                        for k, event in enumerate(outcome.events, 1)]
+        return lines + [record.event_text(k, event) for k, event in enumerate(outcome.events, 1)]
     first = len(trace) - len(trace[-SHOWN:])
     lines += [f'step {k:,}: {named_step(checked.firmware, step)}' for k, step in enumerate(trace[-SHOWN:], first + 1)]
     if outcome.role == 6:
@@ -149,7 +147,7 @@ def place_fields(place):
 def fields(checked, given):
     """What --json says of a run."""
     outcome, loaded = checked.run.outcome, checked.firmware
-    whole = {'file': shown(loaded.name), 'verdict': 'accepted', 'entry': loaded.entry, 'event_count': loaded.event_count,
+    whole = {'file': shown(loaded.name), 'verdict': 'accepted', 'entry': loaded.entry, 'event_count_address': loaded.event_count,
              'events_address': loaded.events, 'input_sha256': hashlib.sha256(firmware.packed(loaded)).hexdigest(),
              'file_sha256': loaded.file_sha256}
     if isinstance(outcome, record.Accepted):

@@ -52,6 +52,11 @@ def verdict(outcome):
     return f'refused {outcome.number}: {reason(*outcome[:2])}, after {count(outcome.completed_steps, "step")}'
 
 
+def event_text(place, event):
+    return (f'event {place}: operation {value(event.operation)}, offset 0x{event.offset:x}, value {value(event.value)}, '
+            f'counted at {event.location:08x}')
+
+
 def refusal_fields(refused):
     """A refusal for JSON."""
     return {'number': refused.number, 'reason': reason(refused.number, refused.role), 'role': refused.role,

@@ -70,18 +70,13 @@ def refusal(contents, told):
 # ---- text
 
 
-def event_text(k, event):
-    return (f'event {k}: operation {record.value(event.operation)}, offset 0x{event.offset:x}, value {record.value(event.value)}, '
-            f'counted at {event.location:08x}')
-
-
 def lines(outcome):
     """The text of each item."""
     if isinstance(outcome, record.Refused):
         more = '; ./lane-check lends more' if outcome.number in (13, 14) else ''
         return [f'{record.verdict(outcome)} (caused by the {record.cause(outcome.number)}{more})']
     heading = f'{record.verdict(outcome)}, for every input from 6 to 255; {record.count(outcome.written_bytes, "written byte")}'
-    return [heading, *(event_text(k, event) for k, event in enumerate(outcome.events, 1)),
+    return [heading, *(record.event_text(k, event) for k, event in enumerate(outcome.events, 1)),
             *(f'{k:6,}  {riscv.step(step)}' for k, step in enumerate(outcome.trace, 1))]
 
 
