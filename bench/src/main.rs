@@ -1,5 +1,6 @@
 //! bench [ROUNDS]: the Rust and the port on the same images in one run, in turn; nanoseconds for a step, the median of ROUNDS
-//! (at least 5), and how the cost grows with steps and with written bytes. Both are the calls alone, on lent memory made before.
+//! (at least 5), and how the cost grows with steps and with written bytes. Both are the calls alone, on lent memory made before,
+//! in processor time, so that what else runs on the machine counts for little.
 
 use lanes::answer::Case;
 use lanes::asm::*;
@@ -7,7 +8,11 @@ use lanes::original;
 use lanes::port::{ENTRY, Lent, Port, ROW};
 use lanes::riscv32imc::Rv32SymbolLayout;
 use lanes::riscv32imc_predicate::execute_invalid_channel_predicate;
-use std::time::Instant;
+use std::time::Duration;
+
+/// The source register of `arithmetic`.
+const LANES: u32 = 10;
+const TOLD: u32 = 9;
 
 /// A body of known length, repeated: x8 counts down.
 fn repeated(times: u32, before: &[u32], body: &[u32]) -> Case {
@@ -20,19 +25,19 @@ fn repeated(times: u32, before: &[u32], body: &[u32]) -> Case {
     Case::plain(code.0)
 }
 
-/// Additions, shifts and logic on lanes.
-fn arithmetic(steps: u32) -> Case {
+/// Additions, shifts and logic with `source`, which has a value for each lane or one for all.
+fn arithmetic(steps: u32, source: u32) -> Case {
     let body = [
-        r(0, 0, 5, 5, 10),
+        r(0, 0, 5, 5, source),
         r(0, 4, 6, 6, 5),
         i(0x13, 1, 7, 6, 3),
         r(0x20, 0, 5, 7, 5),
         r(0, 7, 6, 5, 7),
         r(0, 3, 7, 5, 6),
-        r(1, 0, 5, 5, 10),
+        r(1, 0, 5, 5, source),
         addi(6, 6, 77),
     ];
-    repeated(steps / 10, &[addi(5, 0, 1), addi(6, 0, 2), addi(7, 0, 3)], &body)
+    repeated(steps / 10, &[addi(5, 0, 1), addi(6, 0, 2), addi(7, 0, 3), addi(9, 0, 11)], &body)
 }
 
 fn division(steps: u32) -> Case {
@@ -102,11 +107,23 @@ fn median(mut times: Vec<f64>) -> f64 {
     times[times.len() / 2]
 }
 
+unsafe extern "C" {
+    fn clock_gettime(clock: i32, time: *mut [i64; 2]) -> i32;
+}
+
+/// The processor time of this thread, from the C library (Linux, 64 bits).
+fn used() -> Duration {
+    const CLOCK_THREAD_CPUTIME_ID: i32 = 3;
+    let mut time = [0; 2];
+    assert_eq!(unsafe { clock_gettime(CLOCK_THREAD_CPUTIME_ID, &mut time) }, 0);
+    Duration::new(time[0] as u64, time[1] as u32)
+}
+
 /// Nanoseconds of one call; short ones are called often.
 fn time(often: u32, mut call: impl FnMut()) -> f64 {
-    let start = Instant::now();
+    let start = used();
     (0..often).for_each(|_| call());
-    start.elapsed().as_nanos() as f64 / f64::from(often)
+    (used() - start).as_nanos() as f64 / f64::from(often)
 }
 
 struct Timed {
@@ -145,7 +162,8 @@ fn main() {
         println!("| {name} | {steps} | {:.0} | {:.1} | {ratio:.1} |", each(timed.original), each(timed.port));
     };
     println!("median of {rounds} rounds\n\n| image | steps | Rust, ns a step | port, ns a step | ratio |\n|---|---|---|---|---|");
-    row("ALU loop", arithmetic(100_000), long);
+    row("ALU loop", arithmetic(100_000, LANES), long);
+    row("ALU loop on told words", arithmetic(100_000, TOLD), long);
     row("division loop", division(100_000), long);
     row("loads and stores on the stack", stack(100_000), long);
     row("branch loop", branches(100_000), long);
@@ -154,7 +172,7 @@ fn main() {
     row("document 01's example", Case::plain(code(&[0x4505, RET])), small);
     row("a loop in written code", written_loop(20_000), long);
     for steps in [10_000, 100_000, 999_000] {
-        row(&format!("ALU loop, about {steps} steps"), arithmetic(steps), long);
+        row(&format!("ALU loop, about {steps} steps"), arithmetic(steps, LANES), long);
     }
     for bytes in [200, 2_000, 10_000, 50_000] {
         row(
