@@ -64,6 +64,32 @@ fn differs(a: u32, b: u32) -> usize
     if a == b { 0 } else { 1 }
 }
 
+// The method of an operation, as the run chooses it.
+fn by_method(operation: Binary, left: LaneWord, right: LaneWord) -> LaneWord {
+    match operation {
+        Binary::Add => left.add(right),
+        Binary::Sub => left.sub(right),
+        Binary::Sll => left.sll(right),
+        Binary::Slt => left.slt(right),
+        Binary::Sltu => left.sltu(right),
+        Binary::Xor => left.xor(right),
+        Binary::Srl => left.srl(right),
+        Binary::Sra => left.sra(right),
+        Binary::Or => left.or(right),
+        Binary::And => left.and(right),
+        Binary::Mul => left.mul(right),
+        Binary::Div => left.div(right),
+        Binary::Divu => left.divu(right),
+        Binary::Rem => left.rem(right),
+        Binary::Remu => left.remu(right),
+        Binary::Eq => left.eq(right),
+        Binary::Ne => left.ne(right),
+        Binary::Ge => left.ge(right),
+        Binary::Geu => left.geu(right),
+        _ => left.map_binary(right, operation),
+    }
+}
+
 // One line, in a lane of its own with other lines around it: no pair where it is another operation's.
 fn compare(text: &[u8], lines: usize, line: usize, name: &[u8], operation: Binary) -> Counts
     requires { ⌜ (line < lines) × (lines * 33 ≤ length (now text)) ⌝ }
@@ -81,7 +107,7 @@ fn compare(text: &[u8], lines: usize, line: usize, name: &[u8], operation: Binar
     let lane = line % LaneWord::LANES;
     let left = column(text, lines, line - lane, 6);
     let right = column(text, lines, line - lane, 15);
-    let values = left.map_binary(right, operation).values;
+    let values = by_method(operation, left, right).values;
     Counts {
         pairs: 1,
         words: differs(

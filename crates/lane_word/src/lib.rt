@@ -3,7 +3,7 @@ ghost use mathlib.Core.Path.{_≡_};
 ghost use mathlib.Core.Bool.{_&&_};
 ghost use lib.ListN.{length};
 ghost use Rattle.riscv32imc.specs.Arithmetic.{add, sub, sll, srl, sra, slt, sltu, and, or, xor, mul, div, divu, rem, remu, beq, bne, bge, bgeu, target};
-ghost use Rattle.riscv32imc.specs.Bits.{signExtend, byteOf, join};
+ghost use Rattle.riscv32imc.specs.Bits.{signExtend};
 ghost use Rattle.riscv32imc.specs.Value.{valueOf};
 ghost use Rattle.lane_word.specs.Word.{firstInput, lanes, unknown, constant, domain, inputs, zip, unary, binary, uniformOf};
 ghost use Rattle.lane_word.specs.Told.{wordOf, toldBy, isValue};
@@ -38,38 +38,6 @@ fn zip_values(operation: Binary, left: &[u32], out: &mut [u32])
     while k < LaneWord::LANES {
         out[k] = value(operation, left[k], out[k]);
         k += 1;
-    }
-}
-
-// The operation is chosen once for all lanes, so that each loop knows its own.
-fn operate(operation: Binary, left: &[u32], out: &mut [u32])
-    requires { ⌜ (length (now left) ≡ lanes) × (length (now out) ≡ lanes) ⌝ }
-    ensures { λ r. ⌜ now (out .exit) ≡ zip (valueOf operation) (now (left .entry)) (now (out .entry)) ⌝ }
-{
-    match operation {
-        Binary::Add => zip_values(Binary::Add, left, out),
-        Binary::Sub => zip_values(Binary::Sub, left, out),
-        Binary::Sll => zip_values(Binary::Sll, left, out),
-        Binary::Slt => zip_values(Binary::Slt, left, out),
-        Binary::Sltu => zip_values(Binary::Sltu, left, out),
-        Binary::Xor => zip_values(Binary::Xor, left, out),
-        Binary::Srl => zip_values(Binary::Srl, left, out),
-        Binary::Sra => zip_values(Binary::Sra, left, out),
-        Binary::Or => zip_values(Binary::Or, left, out),
-        Binary::And => zip_values(Binary::And, left, out),
-        Binary::Mul => zip_values(Binary::Mul, left, out),
-        Binary::Div => zip_values(Binary::Div, left, out),
-        Binary::Divu => zip_values(Binary::Divu, left, out),
-        Binary::Rem => zip_values(Binary::Rem, left, out),
-        Binary::Remu => zip_values(Binary::Remu, left, out),
-        Binary::Eq => zip_values(Binary::Eq, left, out),
-        Binary::Ne => zip_values(Binary::Ne, left, out),
-        Binary::Ge => zip_values(Binary::Ge, left, out),
-        Binary::Geu => zip_values(Binary::Geu, left, out),
-        Binary::Join => zip_values(Binary::Join, left, out),
-        Binary::Target => zip_values(Binary::Target, left, out),
-        Binary::SignExtend => zip_values(Binary::SignExtend, left, out),
-        Binary::Byte => zip_values(Binary::Byte, left, out),
     }
 }
 
@@ -191,7 +159,7 @@ impl LaneWord {
     }
 
     // An operation of the two values of each lane.
-    fn zip(self, right: LaneWord, operation: Binary) -> LaneWord
+    pub fn map_binary(self, right: LaneWord, operation: Binary) -> LaneWord
         ensures { λ r. ⌜ r ≡ binary (valueOf operation) self right ⌝ }
     {
         let left = self.values;
@@ -206,130 +174,123 @@ impl LaneWord {
     pub fn add(self, right: LaneWord) -> LaneWord
         ensures { λ r. ⌜ r ≡ binary add self right ⌝ }
     {
-        self.zip(right, Binary::Add)
+        self.map_binary(right, Binary::Add)
     }
 
     pub fn sub(self, right: LaneWord) -> LaneWord
         ensures { λ r. ⌜ r ≡ binary sub self right ⌝ }
     {
-        self.zip(right, Binary::Sub)
+        self.map_binary(right, Binary::Sub)
     }
 
     pub fn sll(self, right: LaneWord) -> LaneWord
         ensures { λ r. ⌜ r ≡ binary sll self right ⌝ }
     {
-        self.zip(right, Binary::Sll)
+        self.map_binary(right, Binary::Sll)
     }
 
     pub fn slt(self, right: LaneWord) -> LaneWord
         ensures { λ r. ⌜ r ≡ binary slt self right ⌝ }
     {
-        self.zip(right, Binary::Slt)
+        self.map_binary(right, Binary::Slt)
     }
 
     pub fn sltu(self, right: LaneWord) -> LaneWord
         ensures { λ r. ⌜ r ≡ binary sltu self right ⌝ }
     {
-        self.zip(right, Binary::Sltu)
+        self.map_binary(right, Binary::Sltu)
     }
 
     pub fn xor(self, right: LaneWord) -> LaneWord
         ensures { λ r. ⌜ r ≡ binary xor self right ⌝ }
     {
-        self.zip(right, Binary::Xor)
+        self.map_binary(right, Binary::Xor)
     }
 
     pub fn srl(self, right: LaneWord) -> LaneWord
         ensures { λ r. ⌜ r ≡ binary srl self right ⌝ }
     {
-        self.zip(right, Binary::Srl)
+        self.map_binary(right, Binary::Srl)
     }
 
     pub fn sra(self, right: LaneWord) -> LaneWord
         ensures { λ r. ⌜ r ≡ binary sra self right ⌝ }
     {
-        self.zip(right, Binary::Sra)
+        self.map_binary(right, Binary::Sra)
     }
 
     pub fn or(self, right: LaneWord) -> LaneWord
         ensures { λ r. ⌜ r ≡ binary or self right ⌝ }
     {
-        self.zip(right, Binary::Or)
+        self.map_binary(right, Binary::Or)
     }
 
     pub fn and(self, right: LaneWord) -> LaneWord
         ensures { λ r. ⌜ r ≡ binary and self right ⌝ }
     {
-        self.zip(right, Binary::And)
+        self.map_binary(right, Binary::And)
     }
 
     pub fn mul(self, right: LaneWord) -> LaneWord
         ensures { λ r. ⌜ r ≡ binary mul self right ⌝ }
     {
-        self.zip(right, Binary::Mul)
+        self.map_binary(right, Binary::Mul)
     }
 
     pub fn div(self, right: LaneWord) -> LaneWord
         ensures { λ r. ⌜ r ≡ binary div self right ⌝ }
     {
-        self.zip(right, Binary::Div)
+        self.map_binary(right, Binary::Div)
     }
 
     pub fn divu(self, right: LaneWord) -> LaneWord
         ensures { λ r. ⌜ r ≡ binary divu self right ⌝ }
     {
-        self.zip(right, Binary::Divu)
+        self.map_binary(right, Binary::Divu)
     }
 
     pub fn rem(self, right: LaneWord) -> LaneWord
         ensures { λ r. ⌜ r ≡ binary rem self right ⌝ }
     {
-        self.zip(right, Binary::Rem)
+        self.map_binary(right, Binary::Rem)
     }
 
     pub fn remu(self, right: LaneWord) -> LaneWord
         ensures { λ r. ⌜ r ≡ binary remu self right ⌝ }
     {
-        self.zip(right, Binary::Remu)
+        self.map_binary(right, Binary::Remu)
     }
 
     // The branch tests, 1 where the branch is taken; BLT and BLTU have those of SLT and SLTU.
     pub fn eq(self, right: LaneWord) -> LaneWord
         ensures { λ r. ⌜ r ≡ binary beq self right ⌝ }
     {
-        self.zip(right, Binary::Eq)
+        self.map_binary(right, Binary::Eq)
     }
 
     pub fn ne(self, right: LaneWord) -> LaneWord
         ensures { λ r. ⌜ r ≡ binary bne self right ⌝ }
     {
-        self.zip(right, Binary::Ne)
+        self.map_binary(right, Binary::Ne)
     }
 
     pub fn ge(self, right: LaneWord) -> LaneWord
         ensures { λ r. ⌜ r ≡ binary bge self right ⌝ }
     {
-        self.zip(right, Binary::Ge)
+        self.map_binary(right, Binary::Ge)
     }
 
     pub fn geu(self, right: LaneWord) -> LaneWord
         ensures { λ r. ⌜ r ≡ binary bgeu self right ⌝ }
     {
-        self.zip(right, Binary::Geu)
-    }
-
-    // An address: the base and an offset.
-    pub fn add_offset(self, offset: u32) -> LaneWord
-        ensures { λ r. ⌜ r ≡ unary (λ v. add v offset) self ⌝ }
-    {
-        self.map_unary(Binary::Add, offset)
+        self.map_binary(right, Binary::Geu)
     }
 
     // Where JALR goes: the sum with bit 0 cleared.
-    pub fn jump_target(self, offset: u32) -> LaneWord
-        ensures { λ r. ⌜ r ≡ unary (λ v. target v offset) self ⌝ }
+    pub fn jump_target(self, offset: LaneWord) -> LaneWord
+        ensures { λ r. ⌜ r ≡ binary target self offset ⌝ }
     {
-        self.map_unary(Binary::Target, offset)
+        self.map_binary(offset, Binary::Target)
     }
 
     // A loaded byte or halfword by its sign.
@@ -337,33 +298,6 @@ impl LaneWord {
         ensures { λ r. ⌜ r ≡ unary (λ v. signExtend v bits) self ⌝ }
     {
         self.map_unary(Binary::SignExtend, bits)
-    }
-
-    // The byte that a store takes, counted from the lowest.
-    pub fn byte_of(self, place: u32) -> LaneWord
-        ensures { λ r. ⌜ r ≡ unary (λ v. byteOf v place) self ⌝ }
-    {
-        self.map_unary(Binary::Byte, place)
-    }
-
-    // A loaded number from its lowest byte and those above it.
-    pub fn join(self, high: LaneWord) -> LaneWord
-        ensures { λ r. ⌜ r ≡ binary join self high ⌝ }
-    {
-        self.zip(high, Binary::Join)
-    }
-
-    // The method of any operation.
-    pub fn map_binary(self, right: LaneWord, operation: Binary) -> LaneWord
-        ensures { λ r. ⌜ r ≡ binary (valueOf operation) self right ⌝ }
-    {
-        let left = self.values;
-        let mut out = right.values;
-        operate(operation, &left, &mut out);
-        LaneWord {
-            values: out,
-            known: both(self.known, right.known),
-        }
     }
 
     // The value that all lanes share.

@@ -31,6 +31,7 @@ use predicate_action::Computation;
 use predicate_action::Extension;
 use predicate_semantics::PredicateTransducerExecution;
 use predicate_semantics::Rv32SymbolLayout;
+use riscv32imc::arithmetic::Binary;
 ghost use mathlib.Core.Path.{_≡_};
 ghost use mathlib.Core.List.{[]};
 ghost use Rattle.lane_word.specs.Word.{constant, lanes};
@@ -219,7 +220,32 @@ fn advance(
             }
             let a = place_of(left, rs1, 32);
             let b = place_of(right, rs2, 33);
-            computed = registers.words[a].map_binary(registers.words[b], function);
+            let one = registers.words[a];
+            let other = registers.words[b];
+            // The last are bytes' operations, which no instruction computes.
+            match function {
+                Binary::Add => computed = one.add(other),
+                Binary::Sub => computed = one.sub(other),
+                Binary::Sll => computed = one.sll(other),
+                Binary::Slt => computed = one.slt(other),
+                Binary::Sltu => computed = one.sltu(other),
+                Binary::Xor => computed = one.xor(other),
+                Binary::Srl => computed = one.srl(other),
+                Binary::Sra => computed = one.sra(other),
+                Binary::Or => computed = one.or(other),
+                Binary::And => computed = one.and(other),
+                Binary::Mul => computed = one.mul(other),
+                Binary::Div => computed = one.div(other),
+                Binary::Divu => computed = one.divu(other),
+                Binary::Rem => computed = one.rem(other),
+                Binary::Remu => computed = one.remu(other),
+                Binary::Eq => computed = one.eq(other),
+                Binary::Ne => computed = one.ne(other),
+                Binary::Ge => computed = one.ge(other),
+                Binary::Geu => computed = one.geu(other),
+                Binary::Target => computed = one.jump_target(other),
+                _ => computed = one.map_binary(other, function),
+            }
             tested = tell(computed.known, &computed.values);
         }
         let change = decide(progress, tested, image, rows, trace.len() / ENTRY_BYTES);

@@ -12,4 +12,4 @@ map-binary-spec =
     (λ c. search needs)
     (λ c κs. search needs)
     (λ c κs. search needs)
-    (λ c. cc (c .before .before .operate .ensures, c .both .ensures)))
+    (λ c. cc (c .before .before .zip-values .ensures, c .both .ensures)))
