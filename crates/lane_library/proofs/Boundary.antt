@@ -25,7 +25,7 @@ use Rattle.lane_record.specs.Answers.{Said, done, wrote, refuses, writeSaid, no
 use Rattle.lane_record.proofs.TestLaws.{both, yes}
 use Rattle.lane_record.proofs.DecodeLaws.{rules, decode-same}
 use Rattle.lane_record.proofs.Theorems.{rewritten}
-use Rattle.lane_library.specs.Boundary.{headingAt, answerWords, eventWords, outcomeWords, code, count, wordsAfter, fit, formed, eventsFrom, outcomeFrom, FitsAnswer, FitsOutcome, ReadsWords, WritesWords, BreaksRules, WordsBack, Rewrites}
+use Rattle.lane_library.specs.Boundary.{headingAt, answerWords, eventWords, outcomeWords, code, count, wordsAfter, fit, formed, eventsFrom, outcomeFrom, FitsAnswer, FitsTypes, ReadsWords, WritesWords, BreaksRules, WordsBack, Rewrites}
 
 -- ---- words that stand for no outcome
 none-by : (b : Bool) (o : RecordOutcome) (t : List ℕ) → b ≡ false → given (cond b o noOutcome) t ≡ none
@@ -89,7 +89,7 @@ module _ (e : PredicateTransducerExecution) (es : List CompiledMmioEvent) (ss : 
   few true p h = leb-true _ _ p
   few false p h = let q : false ≡ true = rw (p, and-false) at h in let z : _≡_ {A = ℕ} 0 1 = cc in absurd (omega arith)
 
-  accepted-fits : (b : Bool) → cond {A = Said} b done (refuses 14) ≡ done → FitsOutcome (cond b (acceptedOutcome e es) noOutcome)
+  accepted-fits : (b : Bool) → cond {A = Said} b done (refuses 14) ≡ done → FitsTypes (cond b (acceptedOutcome e es) noOutcome)
   accepted-fits true d = record {
     answer = tt;
     execution = f .0;
@@ -99,7 +99,7 @@ module _ (e : PredicateTransducerExecution) (es : List CompiledMmioEvent) (ss : 
   }
   accepted-fits false d = let z : _≡_ {A = ℕ} 0 1 = cc in absurd (omega arith)
 
-read-fits : (x : Record) (n : ℕ) → FitsRecord x → valid x ≡ true → readAnswer (some x) n ≡ done → FitsOutcome (readOutcome (some x) n)
+read-fits : (x : Record) (n : ℕ) → FitsRecord x → valid x ≡ true → readAnswer (some x) n ≡ done → FitsTypes (readOutcome (some x) n)
 read-fits (refused r) n f v d = record { answer = f; execution = no-execution; events = refl }
 read-fits (accepted e es ss) n f v d = accepted-fits e es ss f v (leb (e .«symbolic_transitions» * 13) n) d
 

@@ -11,7 +11,7 @@ use lib.ListN.{length, take, drop}
 use lib.Seq.{take-append-seam}
 use Rattle.little_endian.specs.Lent.{over}
 use Rattle.riscv32imc.specs.Constants.{maxSteps}
-use Rattle.lane_word.specs.Word.{firstInput, lanes}
+use Rattle.lane_word.specs.Word.{firstInput}
 use Rattle.predicate_semantics.specs.declared.PredicateTransducerExecution.{PredicateTransducerExecution}
 use Rattle.predicate_semantics.specs.declared.PredicateControlStep.{PredicateControlStep}
 use Rattle.predicate_semantics.specs.declared.Rv32SymbolLayout.{Rv32SymbolLayout}
@@ -20,7 +20,7 @@ use Rattle.predicate_semantics.specs.Refusal.{Tested, passed}
 use Rattle.predicate_semantics.specs.Refusal as Refusal
 use Rattle.predicate_semantics.specs.Lane.{LaneState, Ended, execution}
 use Rattle.predicate_semantics.specs.RecordRules.{Accepted}
-use Rattle.predicate_semantics.specs.Standing.{standing, setup, standingLaneRun, standingScalarRun}
+use Rattle.predicate_semantics.specs.Standing.{lastInput, standing, setup, standingLaneRun, standingScalarRun}
 use Rattle.predicate_semantics.specs.Blank.{noEvents}
 use Rattle.predicate_semantics.specs.Trace.{traceBytes, stepsAt}
 use Rattle.predicate_semantics.proofs.RecordRules as Rules
@@ -115,7 +115,7 @@ module _ (image : List ℕ) (symbols : Rv32SymbolLayout) (rows entries : ℕ) wh
   answered : (a : Tested Result) → e .answer ≡ a
       → (t : List ℕ) (g : RecordReading) (t′ : List ℕ) → Reads (some (recordIn image symbols rows entries s a)) t g t′
       → readSaid (g .answer) ≡ done → g .outcome .answer ≡ recorded.Accepted
-      → (i : ℕ) → firstInput ≤ i → i < firstInput + lanes
+      → (i : ℕ) → firstInput ≤ i → i ≤ lastInput
       → (others : ℕ → ℕ) → standingScalarRun image symbols i others ≡ some (resultRead (g .outcome) t′)
   answered (passed r) q t g t′ h d a i low high others =
       guarantee image symbols rows entries r q i (omega arith) (omega arith) others

@@ -124,14 +124,14 @@ abbrev pub FitsAnswer : RecordAnswer → Type 0
 FitsAnswer recorded.Accepted = Unit
 FitsAnswer (recorded.Refused f) = Fits (widths refusal) (refusalValues f)
 
-pub record FitsOutcome (o : RecordOutcome) : Type 0 where
+pub record FitsTypes (o : RecordOutcome) : Type 0 where
   pub answer : FitsAnswer (o .answer)
   pub execution : Fits (widths heading) (executionValues (o .execution))
   pub events : length (o .events) ≡ length noEvents
 
 -- an outcome's words read back as that outcome
 abbrev pub WordsBack : Type 0
-WordsBack = (o : RecordOutcome) → FitsOutcome o → outcomeFrom (outcomeWords o) ≡ o
+WordsBack = (o : RecordOutcome) → FitsTypes o → outcomeFrom (outcomeWords o) ≡ o
 
 -- what lane_read_record took, lane_write_record writes again byte for byte
 abbrev pub Rewrites : Type 0

@@ -6,10 +6,10 @@ use mathlib.Core.List.{List}
 use Prim.Native.Nat.{ℕ, _+_, _*_, _≤_, _<_}
 use lib.ListN.{length, take}
 use Rattle.little_endian.specs.Lent.{over}
-use Rattle.lane_word.specs.Word.{firstInput, lanes}
+use Rattle.lane_word.specs.Word.{firstInput}
 use Rattle.predicate_semantics.specs.declared.Rv32SymbolLayout.{Rv32SymbolLayout}
 use Rattle.predicate_semantics.specs.State.{Result}
-use Rattle.predicate_semantics.specs.Standing.{standingLaneRun, standingScalarRun}
+use Rattle.predicate_semantics.specs.Standing.{lastInput, standingLaneRun, standingScalarRun}
 use Rattle.predicate_semantics.specs.Blank.{noEvents}
 use Rattle.predicate_semantics.specs.Trace.{traceBytes, stepsAt}
 use Rattle.lane_memory.specs.Rows.{rowCount, cleared}
@@ -104,7 +104,7 @@ Promise image symbols r output =
     (n : ℕ) → writeSaid r ≡ wrote n
     → (t : List ℕ) (reading : RecordReading) (t′ : List ℕ) → Reads (decode (take n output)) t reading t′
     → readSaid (reading .answer) ≡ done → reading .outcome .answer ≡ recorded.Accepted
-    → (i : ℕ) → firstInput ≤ i → i < firstInput + lanes
+    → (i : ℕ) → firstInput ≤ i → i ≤ lastInput
     → (others : ℕ → ℕ) → standingScalarRun image symbols i others ≡ some (resultRead (reading .outcome) t′)
 
 -- the one outcome for each image and its symbols, and every lent byte after it

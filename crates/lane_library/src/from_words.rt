@@ -1,11 +1,11 @@
 // The outcome that words at the C boundary stand for.
 use super::words::ACCEPTED;
 use super::words::EVENT_WORDS;
-use super::words::EVENTS;
 use super::words::EVENTS_AT;
 use super::words::HEADING_AT;
 use super::words::OUTCOME_WORDS;
 use super::words::REFUSED;
+use lane_record::MAX_EVENTS;
 use lane_record::RecordAnswer;
 use lane_record::RecordOutcome;
 use lane_record::RecordRefusal;
@@ -127,7 +127,7 @@ fn event_from(s: &[u32; OUTCOME_WORDS], at: usize) -> CompiledMmioEvent
     }
 }
 
-fn events_from(s: &[u32; OUTCOME_WORDS]) -> [CompiledMmioEvent; EVENTS]
+fn events_from(s: &[u32; OUTCOME_WORDS]) -> [CompiledMmioEvent; MAX_EVENTS]
     ensures { λ r. ⌜ r ≡ eventsFrom 32 (drop eventsAt (now (s .entry))) ⌝ }
 {
     let none = CompiledMmioEvent {
@@ -136,10 +136,10 @@ fn events_from(s: &[u32; OUTCOME_WORDS]) -> [CompiledMmioEvent; EVENTS]
         value: 0,
         location: 0,
     };
-    let mut events = [none; EVENTS];
+    let mut events = [none; MAX_EVENTS];
     let mut k: usize = 0;
     let mut at: usize = EVENTS_AT;
-    while k < EVENTS {
+    while k < MAX_EVENTS {
         let e = event_from(s, at);
         events[k] = e;
         k += 1;

@@ -1,4 +1,5 @@
 // An outcome as words at the C boundary.
+use lane_record::MAX_EVENTS;
 use lane_record::RecordAnswer;
 use lane_record::RecordOutcome;
 use predicate_semantics::CompiledMmioEvent;
@@ -15,8 +16,6 @@ pub const ACCEPTED: u32 = 0x01;
 
 pub const REFUSED: u32 = 0x7F;
 
-pub const EVENTS: usize = 32;
-
 pub const EVENT_WORDS: usize = 4;
 
 // Where the first item's fields begin, after the kind and a refusal's three numbers; where the events do; how many words there are.
@@ -24,7 +23,7 @@ pub const HEADING_AT: usize = 4;
 
 pub const EVENTS_AT: usize = HEADING_AT + 7;
 
-pub const OUTCOME_WORDS: usize = EVENTS_AT + EVENTS * EVENT_WORDS;
+pub const OUTCOME_WORDS: usize = EVENTS_AT + MAX_EVENTS * EVENT_WORDS;
 
 fn put_four(s: &mut [u32; OUTCOME_WORDS], at: usize, a: u32, b: u32, c: u32, d: u32)
     requires { ⌜ at + 4 ≤ outcomeSize ⌝ }
@@ -68,12 +67,12 @@ fn put_execution(s: &mut [u32; OUTCOME_WORDS], e: PredicateTransducerExecution)
     );
 }
 
-fn put_events(s: &mut [u32; OUTCOME_WORDS], events: [CompiledMmioEvent; EVENTS])
+fn put_events(s: &mut [u32; OUTCOME_WORDS], events: [CompiledMmioEvent; MAX_EVENTS])
     ensures { λ r. ⌜ now (s .exit) ≡ sets (now (s .entry)) eventsAt (eventWords events) ⌝ }
 {
     let mut k: usize = 0;
     let mut at: usize = EVENTS_AT;
-    while k < EVENTS {
+    while k < MAX_EVENTS {
         let e = events[k];
         put_four(s, at, e.operation, e.offset, e.value, e.location);
         k += 1;

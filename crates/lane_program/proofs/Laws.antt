@@ -9,9 +9,8 @@ use borrow.Author.Tests.{le-leb}
 use lib.Dec.{leb}
 use lib.ListN.{length}
 use Rattle.little_endian.specs.Lent.{over}
-use Rattle.little_endian.specs.Pack.{total}
 use Rattle.predicate_semantics.specs.declared.Rv32SymbolLayout.{Rv32SymbolLayout}
-use Rattle.predicate_semantics.specs.Trace.{stepWidths}
+use Rattle.predicate_semantics.specs.Trace.{entryBytes}
 use Rattle.lane_memory.specs.Rows.{rowBytes, rowCount}
 use Rattle.lane_record.specs.declared.WriteAnswer.{WriteAnswer}
 use Rattle.lane_record.specs.declared.WriteAnswer.the-variants.{Written}
@@ -23,7 +22,7 @@ use Rattle.lane_library.specs.Inputs.{programRows, programEntries, symbolsIn, i
 use Rattle.lane_library.specs.Outcome.{inputRecord, recordBytes, Promise, LaneRuns}
 use Rattle.lane_library.specs.Boundary.{count}
 use Rattle.lane_library.proofs.Promise.{size-fits}
-use Rattle.lane_program.specs.Program.{programRecord, Lent, Writes}
+use Rattle.lane_program.specs.Program.{programRecord, Lent, WritesRecord}
 
 fits-by : (b : Bool) (input : List ℕ) (rows entries : ℕ) → length (encode (inputRecord b input rows entries)) ≤ recordBytes entries
 fits-by true input rows entries = size-fits (imageIn input) (symbolsIn input) rows entries
@@ -51,7 +50,7 @@ module _ (input rows trace output : List ℕ) (w : WriteAnswer) (rows′ trace�
   same : inputRecord (taken input) input (rowCount rows) (entryCount trace) ≡ x
   same =
       ap (λ (k : ℕ). inputRecord (taken input) input (k / rowBytes) (entryCount trace)) (lent .rows-are)
-      ∙ ap (λ (k : ℕ). inputRecord (taken input) input programRows (k / total stepWidths)) (lent .entries-are)
+      ∙ ap (λ (k : ℕ). inputRecord (taken input) input programRows (k / entryBytes)) (lent .entries-are)
 
   written : Answers.Writes (some x) output w output′
   written = subst (λ (y : Record). Answers.Writes (some y) output w output′) same (h .gives .writes)
@@ -65,7 +64,7 @@ module _ (input rows trace output : List ℕ) (w : WriteAnswer) (rows′ trace�
   sized : n ≡ length (encode x)
   sized = c ∙ ap count told
 
-  pub writes : Writes input output n output′
+  pub writes : WritesRecord input output n output′
   writes = record {
     size = sized;
     fits = omega (arith, sized, fits-by (taken input) input programRows programEntries);

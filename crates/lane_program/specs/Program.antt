@@ -4,8 +4,7 @@ use mathlib.Core.List.{List}
 use Prim.Native.Nat.{ℕ, _*_, _≤_}
 use lib.ListN.{length, replicate}
 use Rattle.little_endian.specs.Lent.{over}
-use Rattle.little_endian.specs.Pack.{total}
-use Rattle.predicate_semantics.specs.Trace.{stepWidths}
+use Rattle.predicate_semantics.specs.Trace.{entryBytes}
 use Rattle.lane_memory.specs.Rows.{rowBytes}
 use Rattle.lane_record.specs.Format.{Record, encode}
 use Rattle.lane_record.specs.declared.WriteAnswer.the-variants.{Written}
@@ -20,11 +19,11 @@ programRecord input = inputRecord (taken input) input programRows programEntries
 -- what is lent to the run: 200 rows, 2,048 entries, and output for the longest record
 pub record Lent (rows trace output : List ℕ) : Type 0 where
   pub rows-are : length rows ≡ programRows * rowBytes
-  pub entries-are : length trace ≡ programEntries * total stepWidths
+  pub entries-are : length trace ≡ programEntries * entryBytes
   pub room : recordBytes programEntries ≤ length output
 
 -- the record's bytes, past which output is untouched; never 16
-pub record Writes (input output : List ℕ) (n : ℕ) (output′ : List ℕ) : Type 0 where
+pub record WritesRecord (input output : List ℕ) (n : ℕ) (output′ : List ℕ) : Type 0 where
   pub size : n ≡ length (encode (programRecord input))
   pub fits : n ≤ recordBytes programEntries
   pub bytes : output′ ≡ over (encode (programRecord input)) output

@@ -1,12 +1,16 @@
 // The program lane-run between its input and its output: what it lends to the run, and the record that it writes.
 use lane_memory::ROW_BYTES;
+use lane_record::EVENT_BYTES;
+use lane_record::HEADING_BYTES;
+use lane_record::MAX_EVENTS;
+use lane_record::STEP_BYTES;
 use lane_record::WriteAnswer;
 use riscv32imc_predicate::ENTRY_BYTES;
 ghost use mathlib.Core.Path.{_≡_};
 ghost use Prim.Native.Nat.{_≤_};
 ghost use Rattle.lane_record.specs.Answers.{writeSaid};
 ghost use Rattle.lane_library.specs.Boundary.{count};
-ghost use Rattle.lane_program.specs.Program.{Lent, Writes, Outputs};
+ghost use Rattle.lane_program.specs.Program.{Lent, WritesRecord, Outputs};
 
 // What the program lends.
 const ROWS: usize = 200;
@@ -17,16 +21,8 @@ const ROW_SPACE: usize = ROWS * ROW_BYTES;
 
 const TRACE_SPACE: usize = ENTRIES * ENTRY_BYTES;
 
-// The items 01, 02 and 03 of a record with their byte of kind, the most events, and the longest record.
-const HEADING_BYTES: usize = 1 + 20;
-
-const EVENT_BYTES: usize = 1 + 16;
-
-const STEP_BYTES: usize = 1 + ENTRY_BYTES;
-
-const EVENTS: usize = 32;
-
-pub const RECORD_BYTES: usize = HEADING_BYTES + EVENTS * EVENT_BYTES + ENTRIES * STEP_BYTES;
+// The longest record.
+pub const RECORD_BYTES: usize = HEADING_BYTES + MAX_EVENTS * EVENT_BYTES + ENTRIES * STEP_BYTES;
 
 // One byte more than the longest input that is taken, so that a longer one is seen to be longer.
 pub const INPUT_BYTES: usize = lane_library::INPUT_BYTES + 1;
@@ -50,7 +46,7 @@ fn count_of(answer: WriteAnswer) -> usize
 // The output is long enough for every record, so there is always one.
 fn run(input: &[u8], rows: &mut [u8], trace: &mut [u8], output: &mut [u8]) -> usize
     requires { ⌜ Lent (now rows) (now trace) (now output) ⌝ }
-    ensures { λ r. ⌜ Writes (now (input .entry)) (now (output .entry)) r (now (output .exit)) ⌝ }
+    ensures { λ r. ⌜ WritesRecord (now (input .entry)) (now (output .entry)) r (now (output .exit)) ⌝ }
 {
     let answer = lane_library::run_input(input, rows, trace, output);
     count_of(answer)

@@ -16,16 +16,16 @@ use Rattle.predicate_semantics.specs.declared.PredicateControlStep.{PredicateCo
 use Rattle.predicate_semantics.specs.declared.CompiledMmioEvent.{CompiledMmioEvent}
 use Rattle.predicate_semantics.specs.declared.PredicateTransducerExecution.{PredicateTransducerExecution}
 use Rattle.predicate_semantics.specs.Blank.{noEvents}
-use Rattle.predicate_semantics.specs.Program.{stop}
-use Rattle.predicate_semantics.specs.Trace.{stepValues, traceBytes, stepsAt}
+use Rattle.predicate_semantics.specs.Program.{stop, maxEvents}
+use Rattle.predicate_semantics.specs.Trace.{entryBytes, stepValues, traceBytes, stepsAt}
 use Rattle.predicate_semantics.proofs.TraceLaws.{length-trace}
 use Rattle.lane_record.specs.declared.RecordRefusal.{RecordRefusal}
 use Rattle.lane_record.specs.declared.RecordAnswer.the-variants as answer
 use Rattle.lane_record.specs.declared.ReadAnswer.the-variants as read
 use Rattle.lane_record.specs.declared.RecordReading.{RecordReading}
 use Rattle.lane_record.specs.declared.WriteAnswer.the-variants as write
-use Rattle.lane_record.specs.Format.{heading, event, step, refusal, mark, size, entryBytes, item, items, Record, accepted, refused, executionValues, eventValues, encode, FitsRecord}
-use Rattle.lane_record.specs.Rules.{maxEvents, executionValid, linked, refusalValid, valid}
+use Rattle.lane_record.specs.Format.{heading, event, step, refusal, mark, size, item, items, Record, accepted, refused, executionValues, eventValues, encode, FitsRecord}
+use Rattle.lane_record.specs.Rules.{executionValid, linked, refusalValid, valid}
 use Rattle.lane_record.specs.Decode.{executionAt, eventsAt, refusalAt, stepsFrom, acceptedAt, marked, acceptedForm, ruled, refusedIn, acceptedIn, decode}
 use Rattle.lane_record.specs.Answers.{Said, done, wrote, refuses, refusedReading, noReading, Reads, Exact, acceptedGiven, givenAccepted, Writes}
 use Rattle.lane_record.proofs.TestLaws.{both, always}

@@ -19,10 +19,10 @@ use Rattle.predicate_semantics.specs.declared.PredicateControlStep.{PredicateCo
 use Rattle.predicate_semantics.specs.declared.CompiledMmioEvent.{CompiledMmioEvent}
 use Rattle.predicate_semantics.specs.declared.PredicateTransducerExecution.{PredicateTransducerExecution}
 use Rattle.predicate_semantics.specs.Program.{stop}
-use Rattle.predicate_semantics.specs.Trace.{stepWidths, stepValues, stepOf, stepsAt}
+use Rattle.predicate_semantics.specs.Trace.{entryBytes, stepWidths, stepValues, stepOf, stepsAt}
 use Rattle.predicate_semantics.proofs.TraceLaws.{steps-values}
 use Rattle.lane_record.specs.declared.RecordRefusal.{RecordRefusal}
-use Rattle.lane_record.specs.Format.{Kind, heading, event, step, refusal, mark, widths, size, entryBytes, item, items, Record, accepted, refused, executionValues, executionOf, eventValues, eventOf, refusalValues, refusalOf, encode, FitsRecord}
+use Rattle.lane_record.specs.Format.{Kind, heading, event, step, refusal, mark, widths, size, item, items, Record, accepted, refused, executionValues, executionOf, eventValues, eventOf, refusalValues, refusalOf, encode, FitsRecord}
 use Rattle.lane_record.specs.Rules.{executionValid, linked, refusalValid, valid}
 use Rattle.lane_record.specs.Decode.{executionAt, eventsAt, refusalAt, stepsFrom, acceptedAt, marks, marked, acceptedForm, ruled, refusedIn, acceptedIn, decode}
 use Rattle.lane_record.proofs.TestLaws.{both, yes}

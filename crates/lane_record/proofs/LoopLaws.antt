@@ -16,10 +16,10 @@ use Rattle.little_endian.proofs.SetLaws.{sets-step}
 use Rattle.predicate_semantics.specs.declared.PredicateControlStep.{PredicateControlStep}
 use Rattle.predicate_semantics.specs.declared.CompiledMmioEvent.{CompiledMmioEvent}
 use Rattle.predicate_semantics.specs.Blank.{noEvent}
-use Rattle.predicate_semantics.specs.Program.{stop}
-use Rattle.predicate_semantics.specs.Trace.{stepWidths, stepValues, stepOf, stepsAt}
-use Rattle.lane_record.specs.Format.{heading, event, widths, size, entryBytes, item, items, eventValues, eventOf}
-use Rattle.lane_record.specs.Rules.{maxEvents, link, begins, linked}
+use Rattle.predicate_semantics.specs.Program.{stop, maxEvents}
+use Rattle.predicate_semantics.specs.Trace.{entryBytes, stepWidths, stepValues, stepOf, stepsAt}
+use Rattle.lane_record.specs.Format.{heading, event, widths, size, item, items, eventValues, eventOf}
+use Rattle.lane_record.specs.Rules.{link, begins, linked}
 use Rattle.lane_record.specs.Decode.{eventsAt, marks}
 
 -- one of n rooms of z

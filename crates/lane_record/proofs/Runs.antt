@@ -17,7 +17,7 @@ use Rattle.lane_word.specs.Word as Word
 use Rattle.predicate_semantics.specs.declared.CompiledMmioEvent.{CompiledMmioEvent}
 use Rattle.predicate_semantics.specs.declared.PredicateControlStep.{PredicateControlStep}
 use Rattle.predicate_semantics.specs.declared.Rv32SymbolLayout.{Rv32SymbolLayout}
-use Rattle.predicate_semantics.specs.Program.{Program}
+use Rattle.predicate_semantics.specs.Program.{Program, maxEvents}
 use Rattle.predicate_semantics.specs.State.{Result}
 use Rattle.predicate_semantics.specs.Refusal.{Tested, passed}
 use Rattle.predicate_semantics.specs.Refusal as Refusal
@@ -30,7 +30,7 @@ use Rattle.predicate_semantics.proofs.RecordRules.{refused-proper, takes-step}
 use Rattle.predicate_semantics.proofs.RecordRules as Rules
 use Rattle.predicate_semantics.proofs.TraceLaws.{standing-completed, standing-trace-fits}
 use Rattle.lane_record.specs.Format.{Record, accepted, refused}
-use Rattle.lane_record.specs.Rules.{minWrittenBytes, maxWrittenBytes, maxEvents, link, begins, linked, refusalValid, valid}
+use Rattle.lane_record.specs.Rules.{minWrittenBytes, maxWrittenBytes, link, begins, linked, refusalValid, valid}
 use Rattle.lane_record.specs.Decode.{ruled}
 use Rattle.lane_record.specs.Answers.{given}
 use Rattle.lane_record.specs.Runs.{refusalIn, recordIn, outcomeIn, KeepsRules}

@@ -17,13 +17,13 @@ use Rattle.predicate_semantics.specs.declared.PredicateControlStep.{PredicateCo
 use Rattle.predicate_semantics.specs.declared.CompiledMmioEvent.{CompiledMmioEvent}
 use Rattle.predicate_semantics.specs.declared.PredicateTransducerExecution.{PredicateTransducerExecution}
 use Rattle.predicate_semantics.specs.Blank.{noEvents}
-use Rattle.predicate_semantics.specs.Trace.{stepWidths, stepValues, traceBytes, stepsAt}
+use Rattle.predicate_semantics.specs.Trace.{entryBytes, stepWidths, stepValues, traceBytes, stepsAt}
 use Rattle.predicate_semantics.proofs.TraceLaws.{length-trace, trace-back}
 use Rattle.lane_record.specs.declared.RecordRefusal.{RecordRefusal}
 use Rattle.lane_record.specs.declared.RecordAnswer.{RecordAnswer}
 use Rattle.lane_record.specs.declared.RecordAnswer.the-variants as answer
 use Rattle.lane_record.specs.declared.RecordOutcome.{RecordOutcome}
-use Rattle.lane_record.specs.Format.{step, widths, entryBytes, Record, accepted, refused, encode, FitsRecord}
+use Rattle.lane_record.specs.Format.{step, widths, Record, accepted, refused, encode, FitsRecord}
 use Rattle.lane_record.specs.Rules.{link, begins, linked, valid}
 use Rattle.lane_record.specs.Decode.{ruled, decode}
 use Rattle.lane_record.specs.Answers.{Said, done, wrote, refuses, noOutcome, refusedOutcome, acceptedOutcome, readAnswer, readOutcome, readTrace, acceptedGiven, givenAccepted, givenRefused, givenBy, given, writeAnswer, writeOutput}

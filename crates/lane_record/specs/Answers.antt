@@ -10,7 +10,7 @@ use Rattle.little_endian.specs.Lent.{over}
 use Rattle.predicate_semantics.specs.declared.CompiledMmioEvent.{CompiledMmioEvent}
 use Rattle.predicate_semantics.specs.declared.PredicateTransducerExecution.{PredicateTransducerExecution}
 use Rattle.predicate_semantics.specs.Blank.{noExecution, noEvents}
-use Rattle.predicate_semantics.specs.Trace.{traceBytes, stepsAt}
+use Rattle.predicate_semantics.specs.Trace.{entryBytes, traceBytes, stepsAt}
 use Rattle.lane_record.specs.declared.RecordRefusal.{RecordRefusal}
 use Rattle.lane_record.specs.declared.RecordAnswer.{RecordAnswer}
 use Rattle.lane_record.specs.declared.RecordAnswer.the-variants as answer
@@ -20,7 +20,7 @@ use Rattle.lane_record.specs.declared.ReadAnswer.the-variants as read
 use Rattle.lane_record.specs.declared.RecordReading.{RecordReading}
 use Rattle.lane_record.specs.declared.WriteAnswer.{WriteAnswer}
 use Rattle.lane_record.specs.declared.WriteAnswer.the-variants as write
-use Rattle.lane_record.specs.Format.{entryBytes, Record, accepted, refused, encode, FitsRecord}
+use Rattle.lane_record.specs.Format.{Record, accepted, refused, encode, FitsRecord}
 use Rattle.lane_record.specs.Rules.{valid}
 use Rattle.lane_record.specs.Decode.{ruled, decode}
 

@@ -33,10 +33,6 @@ widths refusal = 1 ∷ 1 ∷ 4 ∷ []
 abbrev pub size : Kind → ℕ
 size k = 1 + total (widths k)
 
--- the length of a trace's entry, which is a step's body
-abbrev pub entryBytes : ℕ
-entryBytes = total (widths step)
-
 -- an item, and items one after another
 abbrev pub item : Kind → List ℕ → List ℕ
 item k vs = mark k ∷ pack (widths k) vs

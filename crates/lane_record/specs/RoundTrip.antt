@@ -11,7 +11,8 @@ use Rattle.predicate_semantics.specs.declared.PredicateTransducerExecution.{Pre
 use Rattle.lane_record.specs.declared.RecordAnswer.{RecordAnswer}
 use Rattle.lane_record.specs.declared.RecordAnswer.the-variants as answer
 use Rattle.lane_record.specs.declared.RecordOutcome.{RecordOutcome}
-use Rattle.lane_record.specs.Format.{heading, event, refusal, widths, entryBytes, executionValues, eventValues, refusalValues}
+use Rattle.predicate_semantics.specs.Trace.{entryBytes}
+use Rattle.lane_record.specs.Format.{heading, event, refusal, widths, executionValues, eventValues, refusalValues}
 use Rattle.lane_record.specs.Decode.{decode}
 use Rattle.lane_record.specs.Answers.{done, wrote, refusedOutcome, acceptedOutcome, readAnswer, readOutcome, readTrace, given, writeAnswer, writeOutput}
 

@@ -8,7 +8,7 @@ use Rattle.riscv32imc.specs.Constants.{maxMemoryBytes, maxSteps}
 use Rattle.lane_word.specs.Word.{firstInput, lanes}
 use Rattle.predicate_semantics.specs.declared.PredicateControlStep.{PredicateControlStep}
 use Rattle.predicate_semantics.specs.declared.PredicateTransducerExecution.{PredicateTransducerExecution}
-use Rattle.predicate_semantics.specs.Program.{stop}
+use Rattle.predicate_semantics.specs.Program.{stop, maxEvents}
 use Rattle.lane_record.specs.declared.RecordRefusal.{RecordRefusal}
 use Rattle.lane_record.specs.Format.{Record, accepted, refused}
 
@@ -23,10 +23,6 @@ minWrittenBytes = 4
 -- the most, 2,097,151: all of memory but the image, which is never written and has a byte at least
 abbrev pub maxWrittenBytes : ℕ
 maxWrittenBytes = maxMemoryBytes - 1
-
--- the most events
-abbrev pub maxEvents : ℕ
-maxEvents = 32
 
 -- 6, 250, steps 1 to 1,000,000, lane operations 250 × steps, written bytes 4 to 2,097,151, at most 32 events
 abbrev pub executionValid : PredicateTransducerExecution → Bool

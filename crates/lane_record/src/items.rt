@@ -14,8 +14,8 @@ ghost use Prim.Native.Nat.{_+_, _≤_};
 ghost use lib.ListN.{length, drop};
 ghost use lib.Seq.{sets};
 ghost use Rattle.little_endian.specs.Pack.{total, pack, unpack, Fits};
-ghost use Rattle.predicate_semantics.specs.Trace.{stepWidths, stepValues, stepOf};
-ghost use Rattle.lane_record.specs.Format.{heading, event, refusal, widths, size, entryBytes, item, executionValues, eventValues, eventOf, refusalValues};
+ghost use Rattle.predicate_semantics.specs.Trace.{entryBytes, stepWidths, stepValues, stepOf};
+ghost use Rattle.lane_record.specs.Format.{heading, event, refusal, widths, size, item, executionValues, eventValues, eventOf, refusalValues};
 ghost use Rattle.lane_record.specs.Decode.{executionAt, refusalAt};
 
 // The bytes of kind.
@@ -32,7 +32,7 @@ pub const HEADING_BYTES: usize = 1 + 1 + 2 + 4 + 4 + 4 + 4 + 1;
 
 pub const EVENT_BYTES: usize = 1 + 4 + 4 + 4 + 4;
 
-pub const ENTRY_BYTES: usize = 4 + 4 + 1 + 4;
+pub const ENTRY_BYTES: usize = predicate_semantics::ENTRY_BYTES;
 
 pub const STEP_BYTES: usize = 1 + ENTRY_BYTES;
 

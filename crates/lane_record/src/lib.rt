@@ -4,6 +4,9 @@ mod reader;
 mod rules;
 mod writer;
 
+pub use items::EVENT_BYTES;
+pub use items::HEADING_BYTES;
+pub use items::STEP_BYTES;
 use predicate_semantics::CompiledMmioEvent;
 use predicate_semantics::PredicateTransducerExecution;
 ghost use Rattle.lane_record.specs.Decode.{decode};

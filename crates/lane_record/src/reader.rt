@@ -31,9 +31,10 @@ ghost use Prim.Native.Nat.{ℕ, _+_, _*_, _≤_, _<_};
 ghost use lib.ListN.{length, drop};
 ghost use lib.Seq.{sets};
 ghost use Rattle.predicate_semantics.specs.Blank.{noEvents};
-ghost use Rattle.predicate_semantics.specs.Trace.{traceBytes, stepsAt};
-ghost use Rattle.lane_record.specs.Format.{heading, event, step, size, entryBytes};
-ghost use Rattle.lane_record.specs.Rules.{maxEvents, valid};
+ghost use Rattle.predicate_semantics.specs.Trace.{entryBytes, traceBytes, stepsAt};
+ghost use Rattle.lane_record.specs.Format.{heading, event, step, size};
+ghost use Rattle.predicate_semantics.specs.Program.{maxEvents};
+ghost use Rattle.lane_record.specs.Rules.{valid};
 ghost use Rattle.lane_record.specs.Decode.{executionAt, eventsAt, acceptedAt, acceptedForm, acceptedIn, refusedIn, marks};
 ghost use Rattle.lane_record.specs.Answers.{refusedReading, noReading, Reads};
 

@@ -11,8 +11,8 @@ ghost use mathlib.Core.Bool.{cond, _&&_, _||_};
 ghost use Prim.Native.Nat.{_+_, _*_, _≤_};
 ghost use lib.ListN.{length, drop};
 ghost use Rattle.predicate_semantics.specs.Program.{stop};
-ghost use Rattle.predicate_semantics.specs.Trace.{stepsAt};
-ghost use Rattle.lane_record.specs.Format.{entryBytes};
+ghost use Rattle.predicate_semantics.specs.Trace.{entryBytes, stepsAt};
+ghost use Rattle.lane_record.specs.Format.{};
 ghost use Rattle.lane_record.specs.Rules as rules;
 
 // Where a run ends.

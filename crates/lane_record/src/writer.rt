@@ -27,10 +27,10 @@ ghost use lib.Dec.{leb};
 ghost use lib.ListN.{length, take};
 ghost use lib.Seq.{sets};
 ghost use Rattle.little_endian.specs.Pack.{AllFit};
-ghost use Rattle.predicate_semantics.specs.Program.{stop};
-ghost use Rattle.predicate_semantics.specs.Trace.{stepValues, stepsAt};
-ghost use Rattle.lane_record.specs.Format.{heading, event, step, widths, size, entryBytes, items, eventValues};
-ghost use Rattle.lane_record.specs.Rules.{maxEvents, executionValid, linked};
+ghost use Rattle.predicate_semantics.specs.Program.{stop, maxEvents};
+ghost use Rattle.predicate_semantics.specs.Trace.{entryBytes, stepValues, stepsAt};
+ghost use Rattle.lane_record.specs.Format.{heading, event, step, widths, size, items, eventValues};
+ghost use Rattle.lane_record.specs.Rules.{executionValid, linked};
 ghost use Rattle.lane_record.specs.Answers.{givenAccepted, givenRefused, Writes};
 
 fn put_events(s: &mut [u8], events: [CompiledMmioEvent; MAX_EVENTS], n: usize)

@@ -5,13 +5,15 @@ use mathlib.Core.Path.{_≡_}
 use Prim.Native.Nat.{ℕ, _≤_}
 use lib.ListN.{length, take}
 use Rattle.little_endian.specs.Lent.{over}
+use Rattle.riscv32imc.specs.Constants.{maxSteps}
+use Rattle.lane_word.specs.Word.{firstInput}
 use Rattle.predicate_semantics.specs.declared.CompiledMmioEvent.{CompiledMmioEvent}
 use Rattle.predicate_semantics.specs.declared.PredicateTransducerExecution.{PredicateTransducerExecution}
 use Rattle.predicate_semantics.specs.declared.Rv32SymbolLayout.{Rv32SymbolLayout}
 use Rattle.predicate_semantics.specs.State.{Result}
 use Rattle.predicate_semantics.specs.Refusal.{Tested, passed, refused}
 use Rattle.predicate_semantics.specs.Lane.{LaneState, Ended, finish, execution}
-use Rattle.predicate_semantics.specs.Standing.{standing, setup, standingLaneRun, standingScalarRun}
+use Rattle.predicate_semantics.specs.Standing.{lastInput, standing, setup, standingLaneRun, standingScalarRun}
 use Rattle.predicate_semantics.specs.Blank.{noExecution, noEvents}
 use Rattle.predicate_semantics.specs.Trace.{traceBytes, stepsAt}
 use Rattle.lane_memory.specs.Rows.{rowCount, cleared}
@@ -73,7 +75,7 @@ pub record Tells (image : List ℕ) (symbols : Rv32SymbolLayout) (n entries : �
 abbrev pub Answered : Place → Recorded → Finished → PredicateRun → Type 0
 Answered place kept finished r =
     (image : List ℕ) (symbols : Rv32SymbolLayout) (n entries : ℕ) (s : LaneState)
-    → place .steps ≡ s .steps → place .steps ≤ 1000000 → place .written ≡ length (s .memory) → kept .count ≡ length (s .locations)
+    → place .steps ≡ s .steps → place .steps ≤ maxSteps → place .written ≡ length (s .memory) → kept .count ≡ length (s .locations)
     → Answers (finished .verdict) (finished .«return_value») (finished .events) s (finish (standing image symbols) (setup n entries) s)
     → Tells image symbols n entries s (finish (standing image symbols) (setup n entries) s) r
 
@@ -102,5 +104,5 @@ pub record Ran (image : List ℕ) (symbols : Rv32SymbolLayout) (rows trace : Lis
   -- demand 3, of what the code itself gives: each input's scalar run, whatever the 28 other registers hold, answers just this
   pub guarantee :
       (answer : Result) → resultIn r trace′ ≡ passed answer
-      → (input : ℕ) → 6 ≤ input → input ≤ 255
+      → (input : ℕ) → firstInput ≤ input → input ≤ lastInput
       → (others : ℕ → ℕ) → standingScalarRun image symbols input others ≡ some answer

@@ -15,14 +15,14 @@ use Rattle.lane_word.specs.declared.Uniform.{Uniform}
 use Rattle.lane_word.specs.Word.{unknown, constant, domain, inputs, firstInput, lanes}
 use Rattle.predicate_semantics.specs.declared.Rv32SymbolLayout.{Rv32SymbolLayout}
 use Rattle.predicate_semantics.specs.Meaning.{meaning}
-use Rattle.predicate_semantics.specs.Program.{Program, stop, stackPointer, placed}
+use Rattle.predicate_semantics.specs.Program.{Program, stop, stackPointer, maxEvents, placed}
 use Rattle.predicate_semantics.specs.State.{fill, atStart, assign, recorded}
 use Rattle.predicate_semantics.specs.Memory.{LaneBytes}
 use Rattle.predicate_semantics.specs.Refusal.{Tested, passed, refused, _>>=_, require}
 use Rattle.predicate_semantics.specs.Lane.{LaneState, Setup, memoryOf, reg, fetch, execute, run, begin}
 use Rattle.predicate_semantics.specs.Lane as Lane
 use Rattle.predicate_semantics.specs.Standing.{standing, setup}
-use Rattle.predicate_semantics.specs.Trace.{traceBytes, putEntry}
+use Rattle.predicate_semantics.specs.Trace.{entryBytes, traceBytes, putEntry}
 use Rattle.predicate_action.specs.Action.{meaningOf, firstSource, secondSource}
 use Rattle.predicate_action.specs.Computation.{computationOf, computed}
 use Rattle.lane_memory.specs.Rows.{rowCount}
@@ -42,11 +42,11 @@ use Rattle.riscv32imc_predicate.specs.declared.Reached.{Reached}
 
 -- "whole entries (13 bytes, as a 03 body)"
 abbrev pub entryCount : List ℕ → ℕ
-entryCount trace = length trace / 13
+entryCount trace = length trace / entryBytes
 
 -- "Keep the first 32 and count the others."
 abbrev pub Keeps : Recorded → List ℕ → Type 0
-Keeps kept ls = (kept .count ≡ length ls) × (take (length ls) (kept .locations) ≡ take 32 ls)
+Keeps kept ls = (kept .count ≡ length ls) × (take (length ls) (kept .locations) ≡ take maxEvents ls)
 
 -- a run of an image with its symbols, over n lent rows and a lent trace
 module _ (image : List ℕ) (symbols : Rv32SymbolLayout) (n : ℕ) (lent : List ℕ) where
@@ -156,7 +156,7 @@ Decides image rows progress tested entries x =
 
 -- a step's entry in the trace, and the place after it
 pub record Completes (image rows : List ℕ) (progress : Progress) (next new : ℕ) (trace : List ℕ) (r : Progress) (trace′ : List ℕ) : Type 0 where
-  pub entry : trace′ ≡ putEntry trace (progress .place .steps * 13) (record {
+  pub entry : trace′ ≡ putEntry trace (progress .place .steps * entryBytes) (record {
     «program_counter» = progress .place .pc;
     «instruction_word» = progress .word;
     «instruction_bytes» = progress .length % 256;
@@ -195,7 +195,7 @@ startPlace entry = record { pc = entry; steps = 0; written = 4 }
 
 -- no event yet
 abbrev pub startRecorded : Recorded
-startRecorded = record { count = 0; locations = replicate 32 0 }
+startRecorded = record { count = 0; locations = replicate maxEvents 0 }
 
 -- "x0 = 0, x1 = stop, x2 = 801FFFF0, x10 = the input; the rest are unknown"
 abbrev pub startRegisters : List LaneWord

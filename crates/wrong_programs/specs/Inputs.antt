@@ -3,12 +3,11 @@ use mathlib.Core.List.{List, _++_}
 use Prim.Native.Nat.{ℕ, _*_}
 use lib.ListN.{replicate}
 use Rattle.little_endian.specs.Number.{bytes}
-use Rattle.little_endian.specs.Pack.{total}
 use Rattle.riscv32imc.specs.Constants.{imageBase}
 use Rattle.predicate_semantics.specs.declared.Rv32SymbolLayout.{Rv32SymbolLayout}
 use Rattle.predicate_semantics.specs.Lane.{Ended}
 use Rattle.predicate_semantics.specs.Cases.{symbols, word, half, return1}
-use Rattle.predicate_semantics.specs.Trace.{stepWidths}
+use Rattle.predicate_semantics.specs.Trace.{entryBytes}
 use Rattle.lane_memory.specs.Rows.{rowBytes}
 use Rattle.riscv32imc_predicate.specs.Outcome.{runOver}
 use Rattle.lane_library.specs.Inputs.{symbolsIn, imageIn}
@@ -40,7 +39,7 @@ given image rows entries =
     record {
       bytes = inputBytes (symbols imageBase) image;
       rows = replicate (rows * rowBytes) 0;
-      trace = replicate (entries * total stepWidths) 0;
+      trace = replicate (entries * entryBytes) 0;
       output = replicate 64 0;
     }
 

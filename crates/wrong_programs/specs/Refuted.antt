@@ -10,7 +10,7 @@ use Rattle.predicate_semantics.specs.declared.PredicateTransducerExecution.{Pre
 use Rattle.predicate_semantics.specs.State.{Result}
 use Rattle.predicate_semantics.specs.Refusal.{Tested, passed}
 use Rattle.predicate_semantics.specs.Refusal as Refusal
-use Rattle.predicate_semantics.specs.Standing.{standingScalarRun}
+use Rattle.predicate_semantics.specs.Standing.{lastInput, standingScalarRun}
 use Rattle.lane_record.specs.declared.WriteAnswer.{WriteAnswer}
 use Rattle.lane_record.specs.Format.{Record, accepted, refused}
 use Rattle.lane_record.specs.Decode.{decode}
@@ -86,7 +86,7 @@ RunRefuted = Refuted RunOutput seenOfRun RunMeets
 abbrev pub RunPromises : Input → RunOutput → Type 0
 RunPromises x o =
     (result : Result) → resultIn (o .run) (o .trace) ≡ passed result
-    → (input : ℕ) → firstInput ≤ input → input ≤ 255
+    → (input : ℕ) → firstInput ≤ input → input ≤ lastInput
     → (others : ℕ → ℕ) → standingScalarRun (imageOf x) (symbolsOf x) input others ≡ some result
 
 pub record PromiseRefuted : Type 0 where
