@@ -119,7 +119,7 @@ tells-by f Unknown v x y p q = tt
 tells-by f Uneven v x y p q = tt
 
 -- what is told of a number is its word
-pub tells-read : (image rows : List ℕ) (n a : ℕ) → Tells (toldRead (toldSeen image rows) n a) (read lanes (seen image rows) n a)
+tells-read : (image rows : List ℕ) (n a : ℕ) → Tells (toldRead (toldSeen image rows) n a) (read lanes (seen image rows) n a)
 unfolding toldRead read
 tells-read image rows zero a = refl
 tells-read image rows (suc n) a =
@@ -178,7 +178,7 @@ unfolding initial
 initial-at image a l = rw (le-ltb a imageBase l)
 
 -- a number that lies whole in the image is told
-pub told-image : (image rows : List ℕ) → AllBytes image → (n a : ℕ) → n ≤ 4 → imageBase ≤ a → offsetOf a + n ≤ length image
+told-image : (image rows : List ℕ) → AllBytes image → (n a : ℕ) → n ≤ 4 → imageBase ≤ a → offsetOf a + n ≤ length image
     → toldRead (toldSeen image rows) n a ≡ Value (value (take n (drop (offsetOf a) image)))
 unfolding toldRead toldSeen
 told-image image rows h zero a k l f = refl
