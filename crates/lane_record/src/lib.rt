@@ -13,7 +13,7 @@ ghost use Rattle.lane_record.specs.Decode.{decode};
 ghost use Rattle.lane_record.specs.Answers.{Reads, Exact, Writes, given};
 
 // The most events of a record.
-pub const MAX_EVENTS: usize = 32;
+pub const MAX_EVENTS: usize = predicate_semantics::MAX_EVENTS;
 
 // A run's refusal as an item 7F holds it.
 pub struct RecordRefusal {

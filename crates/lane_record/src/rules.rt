@@ -6,17 +6,14 @@ use super::items::step_at;
 use lane_word::LaneWord;
 use predicate_semantics::PredicateControlStep;
 use predicate_semantics::PredicateTransducerExecution;
+use predicate_semantics::STOP;
 ghost use mathlib.Core.Path.{_≡_};
 ghost use mathlib.Core.Bool.{cond, _&&_, _||_};
 ghost use Prim.Native.Nat.{_+_, _*_, _≤_};
 ghost use lib.ListN.{length, drop};
 ghost use Rattle.predicate_semantics.specs.Program.{stop};
 ghost use Rattle.predicate_semantics.specs.Trace.{entryBytes, stepsAt};
-ghost use Rattle.lane_record.specs.Format.{};
 ghost use Rattle.lane_record.specs.Rules as rules;
-
-// Where a run ends.
-const STOP: u32 = 0x801F_FFFC;
 
 // The most steps of a run.
 const MAX_STEPS: u32 = riscv32imc::MAX_RV32_STEPS as u32;

@@ -38,6 +38,16 @@ pub struct PredicateTransducerExecution {
     pub event_count: u8,
 }
 
+// Where a run ends, the word that lies there, and where the stack pointer starts.
+pub const STOP: u32 = 0x801F_FFFC;
+
+pub const STOP_WORD: u32 = 0x0010_0073;
+
+pub const STACK_POINTER: u32 = 0x801F_FFF0;
+
+// The most events.
+pub const MAX_EVENTS: usize = 32;
+
 // The bytes of a step's entry in a trace: the widths of its four numbers.
 pub const ENTRY_BYTES: usize = 4 + 4 + 1 + 4;
 

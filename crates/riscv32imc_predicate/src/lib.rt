@@ -11,16 +11,15 @@ use predicate_action::Action;
 use predicate_action::Computation;
 use predicate_action::Extension;
 use predicate_semantics::CompiledMmioEvent;
+use predicate_semantics::MAX_EVENTS;
 use predicate_semantics::PredicateTransducerExecution;
 use predicate_semantics::Rv32SymbolLayout;
 
-// The address of the stop word, and the word.
-const STOP: u32 = 0x801F_FFFC;
-
-const STOP_WORD: u32 = 0x0010_0073;
-
 // Bytes of a trace entry.
 pub const ENTRY_BYTES: usize = predicate_semantics::ENTRY_BYTES;
+
+// The most events, as a count of them.
+const EVENT_LIMIT: u32 = MAX_EVENTS as u32;
 
 // What an operation changes: a register, with one value for all lanes, with the word that is computed or with loaded lanes; bytes; or nothing.
 enum Change {
@@ -61,7 +60,7 @@ struct Place {
 // How many events were recorded, and where the first 32 of them were. Beside the place, which every step copies.
 struct Recorded {
     count: u32,
-    locations: [u32; 32],
+    locations: [u32; MAX_EVENTS],
 }
 
 // How a run ends before its answer.
@@ -105,7 +104,7 @@ pub struct PredicateRun {
     pub answer: PredicateAnswer,
     pub steps: u32,
     pub execution: PredicateTransducerExecution,
-    pub events: [CompiledMmioEvent; 32],
+    pub events: [CompiledMmioEvent; MAX_EVENTS],
 }
 
 // The run; no lent row is used before it, and all are zero after it.

@@ -9,8 +9,6 @@ use super::Progress;
 use super::Reached;
 use super::Recorded;
 use super::Registers;
-use super::STOP;
-use super::STOP_WORD;
 use super::execute::extend;
 use super::finish::Finished;
 use super::finish::finish;
@@ -29,8 +27,12 @@ use lane_word::tell;
 use lane_word::told_by;
 use predicate_action::Computation;
 use predicate_action::Extension;
+use predicate_semantics::MAX_EVENTS;
 use predicate_semantics::PredicateTransducerExecution;
 use predicate_semantics::Rv32SymbolLayout;
+use predicate_semantics::STACK_POINTER;
+use predicate_semantics::STOP;
+use predicate_semantics::STOP_WORD;
 use riscv32imc::arithmetic::Binary;
 ghost use mathlib.Core.Path.{_≡_};
 ghost use mathlib.Core.List.{[]};
@@ -47,7 +49,7 @@ ghost use Rattle.riscv32imc_predicate.specs.Outcome.{refusedRun, Answere
 fn in_memory(address: u32) -> bool
     ensures { λ r. ⌜ r ≡ inMemory address ⌝ }
 {
-    riscv32imc::RV32_IMAGE_BASE <= address && address < 0x8020_0000
+    riscv32imc::RV32_IMAGE_BASE <= address && address < lane_access::RV32_MEMORY_END
 }
 
 fn symbols_placed(symbols: Rv32SymbolLayout) -> bool
@@ -96,7 +98,7 @@ fn start_recorded() -> Recorded
 {
     Recorded {
         count: 0,
-        locations: [0; 32],
+        locations: [0; MAX_EVENTS],
     }
 }
 
@@ -115,7 +117,7 @@ fn start_told() -> [Uniform; 35]
     let mut told = [Uniform::Unknown; 35];
     told[0] = Uniform::Value(0);
     told[1] = Uniform::Value(STOP);
-    told[2] = Uniform::Value(0x801F_FFF0);
+    told[2] = Uniform::Value(STACK_POINTER);
     told
 }
 

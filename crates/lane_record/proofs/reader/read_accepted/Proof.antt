@@ -12,7 +12,6 @@ use Rattle.lane_record.specs.declared.RecordAnswer.the-variants as answe
 use Rattle.lane_record.specs.declared.ReadAnswer.the-variants as read
 use Rattle.lane_record.specs.declared.RecordReading.{RecordReading}
 use Rattle.predicate_semantics.specs.Trace.{entryBytes}
-use Rattle.lane_record.specs.Format.{}
 use Rattle.lane_record.specs.Rules.{valid}
 use Rattle.lane_record.specs.Decode.{acceptedForm, acceptedAt, acceptedIn}
 use Rattle.lane_record.specs.Answers.{noReading, Reads}
