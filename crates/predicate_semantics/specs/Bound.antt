@@ -12,14 +12,14 @@ use Rattle.predicate_semantics.specs.Scalar.{scalarRun}
 use Rattle.predicate_semantics.specs.Lane.{Setup, laneRun}
 use Rattle.predicate_semantics.specs.Cases.{refuses, holds}
 
--- An image that never arrives is refused by 3, after 1,000,000 completed steps and no other number, however much is lent beyond them.
+-- The image is refused by 3 after 1,000,000 completed steps and no other number, with any rows from four on and any trace entries from so many on.
 -- The number is spelled here, and not named, because this statement is what fixes it.
 abbrev pub RefusedAtBound : List ℕ → Type 0
 RefusedAtBound image =
     (rows entries : ℕ) → 4 ≤ rows → 1000000 ≤ entries
     → holds (record { image = image; entry = imageBase; rows = rows; entries = entries; outcome = refuses 3 0 1000000 }) ≡ true
 
--- two that jump to themselves: JAL x0, 0, and C.J 0
+-- so are the images that jump to themselves: JAL x0, 0, and C.J 0
 abbrev pub StepBound : Type 0
 StepBound = RefusedAtBound (0x6F ∷ 0x00 ∷ 0x00 ∷ 0x00 ∷ []) × RefusedAtBound (0x01 ∷ 0xA0 ∷ [])
 
