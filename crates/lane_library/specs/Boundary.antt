@@ -98,7 +98,7 @@ abbrev pub eventsFrom : ℕ → List ℕ → List CompiledMmioEvent
 eventsFrom zero ws = []
 eventsFrom (suc n) ws = eventOf ws ∷ eventsFrom n (drop 4 ws)
 
--- words that are not so formed stand for no outcome
+-- words that are not so formed stand for no outcome: a refusal numbered 0
 abbrev pub outcomeFrom : List ℕ → RecordOutcome
 outcomeFrom ws =
     cond (formed ws)
@@ -115,7 +115,7 @@ WritesWords ws t out r out′ written = Coded (λ a. Writes (given (outcomeFrom 
 
 -- ---- what holds of the two
 
--- a word too large for its place, or another kind, breaks the rules, whatever they are
+-- a word too large for its place, or another kind, breaks the rules by itself: no test of what it would stand for
 abbrev pub BreaksRules : Type 0
 BreaksRules = (ws t : List ℕ) → formed ws ≡ false → given (outcomeFrom ws) t ≡ none
 
