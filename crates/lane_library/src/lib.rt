@@ -5,6 +5,7 @@ mod words;
 
 use lane_access::Role;
 use lane_access::Rv32Error;
+use lane_record::MAX_EVENTS;
 use lane_record::RecordAnswer;
 use lane_record::RecordOutcome;
 use lane_record::RecordRefusal;
@@ -144,7 +145,7 @@ fn refused_outcome(number: u8) -> RecordOutcome
         role: 0,
         steps: 0,
     };
-    let events = [none; 32];
+    let events = [none; MAX_EVENTS];
     RecordOutcome {
         answer: RecordAnswer::Refused(refusal),
         execution: execution,
