@@ -110,8 +110,9 @@ uint32_t lane_run_image(const uint8_t *image, size_t image_len, uint32_t entry, 
 uint32_t lane_read_record(const uint8_t *bytes, size_t bytes_len, uint8_t *trace, size_t trace_len, struct lane_outcome *outcome);
 
 /* Writes the record of an outcome and of the trace's first entries. 0: *written bytes of the record are in output, and what lies past them
-   is untouched. LANE_REFUSAL_RULES: outcome or trace break the record's rules, as does a number too large for its place in a record.
-   LANE_REFUSAL_OUTPUT: output is too short. After these two nothing is written, and *written is 0. */
+   is untouched. LANE_REFUSAL_RULES: outcome or trace break the record's rules, as does a number too large for its place in a record, in
+   a field of the other kind too: begin with a struct of zeros. LANE_REFUSAL_OUTPUT: output is too short. After these two nothing is written, and
+   *written is 0. */
 uint32_t lane_write_record(const struct lane_outcome *outcome, const uint8_t *trace, size_t trace_len, uint8_t *output, size_t output_len,
                            uint64_t *written);
 
