@@ -123,7 +123,7 @@ module _ (bs t ws t′ ws′ : List ℕ) (b : AllBytes bs) (out : List ℕ) (r :
       ap outcomeFrom (h .outcome ∙ ap (λ (a : Said). wordsAfter a o ws) d) ∙ words-back o (read-fits x (length t) (s .fits) (s .rules) d) in
       let g : given (outcomeFrom ws′) t′ ≡ given o (readTrace (some x) t) =
       ap (λ (y : RecordOutcome). given y t′) back ∙ ap (λ (u : List ℕ). given o u) (h .trace) in
-      let y = rewritten bs t out x b e d l in
+      let y = rw e at (rewritten bs t b (rw e d) out l) in
       let said : writeSaid (w .answer) ≡ wrote (length bs) =
       w .held .answer ∙ ap (λ (q : Option Record). writeAnswer q (length out)) g ∙ y .0 in
       (w .code-is ∙ ap code said, w .count-is ∙ ap count said, w .held .output ∙ ap (λ (q : Option Record). writeOutput q out) g ∙ y .1)
