@@ -46,6 +46,9 @@ ghost use Rattle.riscv32imc_predicate.specs.Tracking.{startTested, start
 ghost use Rattle.riscv32imc_predicate.specs.Register.{slotOf, placeOf, operandTold, startTold, StartWords, Stores, LoadsLanes};
 ghost use Rattle.riscv32imc_predicate.specs.Outcome.{refusedRun, Answered, Runs};
 
+// The lanes, as a factor of lane operations.
+const LANE_COUNT: u32 = LaneWord::LANES as u32;
+
 fn in_memory(address: u32) -> bool
     ensures { λ r. ⌜ r ≡ inMemory address ⌝ }
 {
@@ -337,7 +340,7 @@ fn answered(place: Place, recorded: Recorded, finished: Finished) -> PredicateRu
                 lane_count: LaneWord::LANES as u16,
                 return_value: finished.return_value,
                 symbolic_transitions: place.steps,
-                lane_value_operations: riscv32imc::arithmetic::rv32_mul(250, place.steps),
+                lane_value_operations: riscv32imc::arithmetic::rv32_mul(LANE_COUNT, place.steps),
                 sparse_memory_bytes: place.written,
                 event_count: (recorded.count % 256) as u8,
             },
