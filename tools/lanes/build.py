@@ -14,10 +14,10 @@ from .command import Failure, ROOT, first_line
 
 TARGET = os.path.join(ROOT, 'target')
 STAMPS = os.path.join(TARGET, 'tools')
-# Seconds that a crate takes on an idle x86-64 core, roughly. Others take OTHER.
-SECONDS = {'little_endian': 10, 'riscv32imc': 25, 'riscv_decode': 20, 'lane_word': 40, 'predicate_semantics': 25, 'predicate_action': 20,
-           'lane_memory': 20, 'lane_record': 25, 'lane_access': 20, 'riscv32imc_predicate': 75, 'lane_library': 45, 'lane_run': 15,
-           'record_text': 55}
+# Seconds that a crate takes, as `rt ci` printed them on two idle x86-64 cores. Others take OTHER.
+SECONDS = {'little_endian': 12, 'riscv32imc': 32, 'riscv_decode': 28, 'lane_word': 17, 'predicate_semantics': 7, 'predicate_action': 24,
+           'lane_memory': 30, 'lane_record': 38, 'lane_access': 24, 'riscv32imc_predicate': 152, 'lane_library': 54, 'lane_program': 19,
+           'lane_run': 18, 'record_text': 63}
 OTHER = 30
 QUIET = 1.5  # seconds that rt may take before anything is said of it
 NO_KIT = "rt, the Rattle kit's command, is not on PATH, and there is something to prove and build (README.md, Requirements)"
