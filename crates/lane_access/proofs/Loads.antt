@@ -32,7 +32,7 @@ use Rattle.lane_access.specs.Seen.{offsetOf, seen, toldSeen, toldRead, L
 use Rattle.lane_access.specs.declared.Accessed.{Accessed}
 use Rattle.lane_access.specs.declared.Loading.{Loading}
 use Rattle.lane_access.specs.declared.Loading.the-variants as loading
-use Rattle.lane_access.specs.Answers.{refusalOf, testedAs, answerOf, accessedAs, loadingOf, toldLoad, decodedAs, expandedAs, fourAs}
+use Rattle.lane_access.specs.Answers.{refusalOf, testedAs, accessedOf, accessedAs, loadingOf, toldLoad, decodedAs, expandedAs, fourAs}
 
 tested : (role v : ℕ) (b c : Bool)
     → choose b (λ _. choose c (λ _. passed v) (λ _. refuse 7 role)) (λ _. refuse 6 role)
@@ -232,7 +232,7 @@ module _ (memory : LaneBytes) (n a : ℕ) where
   answer-refused r h e = rw (e, access-outside r h)
 
   -- the word of a load that passed
-  pub accessed-word : (r : Accessed) → answerOf r ≡ accessedAs (access (inputs firstInput lanes) memory n a) → inside a n ≡ passed tt → r .word ≡ read lanes memory n a
+  pub accessed-word : (r : Accessed) → accessedOf r ≡ accessedAs (access (inputs firstInput lanes) memory n a) → inside a n ≡ passed tt → r .word ≡ read lanes memory n a
   accessed-word r e h = ap (λ (x : Tested (Unit {0}) × LaneWord). x .1) (e ∙ ap accessedAs (access-inside h))
 
   module _ (role : ℕ) where

@@ -70,8 +70,8 @@ testedAs r Unknown = refuse 6 r
 testedAs r Uneven = refuse 7 r
 
 -- the whole answer to a load: its verdict, and its word beside it
-abbrev pub answerOf : Accessed → Tested (Unit {0}) × LaneWord
-answerOf a = (verdictOf (a .verdict), a .word)
+abbrev pub accessedOf : Accessed → Tested (Unit {0}) × LaneWord
+accessedOf a = (verdictOf (a .verdict), a .word)
 
 -- a load's answer; where it is refused its word is unknown
 abbrev pub accessedAs : Tested LaneWord → Tested (Unit {0}) × LaneWord

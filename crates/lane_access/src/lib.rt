@@ -12,7 +12,7 @@ ghost use Rattle.predicate_semantics.specs.Lane.{agreed, inside, access, access
 ghost use Rattle.predicate_semantics.specs.Standing.{standingCore};
 ghost use Rattle.lane_memory.specs.Rows.{Joined};
 ghost use Rattle.lane_access.specs.Seen.{offsetOf, seen, toldSeen, toldRead, FromImage};
-ghost use Rattle.lane_access.specs.Answers.{roleOf, verdictOf, agreedOf, testedAs, answerOf, accessedAs, loadingOf, toldLoad, fetchingOf, decodedAs, expandedAs, fourAs};
+ghost use Rattle.lane_access.specs.Answers.{roleOf, verdictOf, agreedOf, testedAs, accessedOf, accessedAs, loadingOf, toldLoad, fetchingOf, decodedAs, expandedAs, fourAs};
 use lane_word::LaneWord;
 use lane_word::Uniform;
 use riscv_decode::Decoded;
@@ -255,7 +255,7 @@ pub fn load(image: &[u8], rows: &[u8], address: u32, width: u32) -> Loading
 
 // A load lane by lane: range, then the bytes.
 pub fn access(image: &[u8], rows: &[u8], address: u32, width: u32) -> Accessed
-    ensures { λ r. ⌜ answerOf r ≡ accessedAs (access (inputs firstInput lanes) (seen (now (image .entry)) (now (rows .entry))) width address) ⌝ }
+    ensures { λ r. ⌜ accessedOf r ≡ accessedAs (access (inputs firstInput lanes) (seen (now (image .entry)) (now (rows .entry))) width address) ⌝ }
 {
     let range = range_of(address, width);
     if let Verdict::Refused(error) = range {

@@ -26,7 +26,7 @@ use Rattle.lane_record.specs.declared.WriteAnswer.{WriteAnswer}
 use Rattle.lane_record.specs.Format.{heading, refusal, mark, widths, Record, executionValues, executionOf, eventValues, eventOf, refusalOf}
 use Rattle.lane_record.specs.Answers.{Said, readSaid, readAnswer, given, Reads, Writes}
 use Rattle.lane_record.proofs.TestLaws.{both}
-use Rattle.lane_library.specs.Boundary.{headingAt, eventsAt, outcomeSize, answerWords, eventWords, outcomeWords, code, wordsAfter, ReadsWords, fit, formed, eventsFrom, outcomeFrom}
+use Rattle.lane_library.specs.Boundary.{headingAt, eventWordsAt, outcomeSize, answerWords, eventWords, outcomeWords, code, wordsAfter, ReadsWords, fit, formed, eventsFrom, outcomeFrom}
 
 pub four : (l : List ℕ) (at a b c d : ℕ)
     → set (set (set (set l at a) (at + 1) b) (at + 2) c) (at + 3) d ≡ sets l at (a ∷ b ∷ c ∷ d ∷ [])
@@ -56,7 +56,7 @@ length-words (e ∷ es) = omega (arith, length-words es)
 
 -- the three parts put one after another are the whole outcome
 pub outcome-put : (o : RecordOutcome) (l : List ℕ) → length l ≡ outcomeSize → length (o .events) ≡ 32
-    → sets (sets (sets l 0 (answerWords (o .answer))) headingAt (executionValues (o .execution))) eventsAt (eventWords (o .events)) ≡ outcomeWords o
+    → sets (sets (sets l 0 (answerWords (o .answer))) headingAt (executionValues (o .execution))) eventWordsAt (eventWords (o .events)) ≡ outcomeWords o
 outcome-put o l h n =
     let A : List ℕ = answerWords (o .answer) in
     let B : List ℕ = executionValues (o .execution) in
@@ -69,10 +69,10 @@ outcome-put o l h n =
 -- the events from k on are still to be put, from at on
 pub record Wording (es : List CompiledMmioEvent) (final t : List ℕ) (k at : ℕ) : Type 0 where
   pub within : k ≤ 32
-  pub place : at ≡ eventsAt + k * 4
+  pub place : at ≡ eventWordsAt + k * 4
   pub rest : final ≡ sets t at (eventWords (drop k es))
 
-pub wording-start : (es : List CompiledMmioEvent) (t : List ℕ) → Wording es (sets t eventsAt (eventWords es)) t 0 eventsAt
+pub wording-start : (es : List CompiledMmioEvent) (t : List ℕ) → Wording es (sets t eventWordsAt (eventWords es)) t 0 eventWordsAt
 wording-start es t = record { within = omega arith; place = refl; rest = refl }
 
 module _ {es : List CompiledMmioEvent} {final : List ℕ} {t : List ℕ} {k at : ℕ} (c : Wording es final t k at) where
@@ -157,12 +157,12 @@ length-from (suc n) ws = ap (λ (k : ℕ). suc k) (length-from n (drop 4 ws))
 pub record Gathering (ws : List ℕ) (final es : List CompiledMmioEvent) (k at : ℕ) : Type 0 where
   pub long : length es ≡ 32
   pub within : k ≤ 32
-  pub place : at ≡ eventsAt + k * 4
+  pub place : at ≡ eventWordsAt + k * 4
   pub rest : final ≡ sets es k (eventsFrom (32 - k) (drop at ws))
 
-pub gathering-start : (ws : List ℕ) (es : List CompiledMmioEvent) → length es ≡ 32 → Gathering ws (eventsFrom 32 (drop eventsAt ws)) es 0 eventsAt
+pub gathering-start : (ws : List ℕ) (es : List CompiledMmioEvent) → length es ≡ 32 → Gathering ws (eventsFrom 32 (drop eventWordsAt ws)) es 0 eventWordsAt
 gathering-start ws es h =
-    record { long = h; within = omega arith; place = refl; rest = sym (whole (eventsFrom 32 (drop eventsAt ws)) es (length-from 32 (drop eventsAt ws) ∙ sym h)) }
+    record { long = h; within = omega arith; place = refl; rest = sym (whole (eventsFrom 32 (drop eventWordsAt ws)) es (length-from 32 (drop eventWordsAt ws) ∙ sym h)) }
 
 module _ {ws : List ℕ} {final es : List CompiledMmioEvent} {k at : ℕ} (c : Gathering ws final es k at) where
   pub gathering-step : (e : CompiledMmioEvent) → k < 32 → e ≡ eventOf (drop at ws) → Gathering ws final (set es k e) (k + 1) (at + 4)

@@ -44,11 +44,11 @@ pub record Coded (holds : WriteAnswer → Type 0) (r written : ℕ) : Type 0 whe
 abbrev pub headingAt : ℕ
 headingAt = 1 + length (widths refusal)
 
-abbrev pub eventsAt : ℕ
-eventsAt = headingAt + length (widths heading)
+abbrev pub eventWordsAt : ℕ
+eventWordsAt = headingAt + length (widths heading)
 
 abbrev pub outcomeSize : ℕ
-outcomeSize = eventsAt + length noEvents * length (widths event)
+outcomeSize = eventWordsAt + length noEvents * length (widths event)
 
 -- kind as a record's first byte has it, then a refusal's number, role and completed steps
 abbrev pub answerWords : RecordAnswer → List ℕ
@@ -105,7 +105,7 @@ outcomeFrom ws =
     (record {
       answer = answerFrom ws;
       execution = executionOf (drop headingAt ws);
-      events = eventsFrom (length noEvents) (drop eventsAt ws);
+      events = eventsFrom (length noEvents) (drop eventWordsAt ws);
     })
     noOutcome
 

@@ -17,9 +17,10 @@ ghost use mathlib.Core.List.{[], _∷_};
 ghost use Prim.Native.Nat.{_+_, _≤_};
 ghost use lib.Dec.{eqb};
 ghost use lib.ListN.{drop};
+ghost use Rattle.predicate_semantics.specs.Program.{maxEvents};
 ghost use Rattle.lane_record.specs.Format.{heading, refusal, mark, widths, executionOf, eventOf, refusalOf};
 ghost use Rattle.lane_library.specs.Boundary as boundary;
-ghost use Rattle.lane_library.specs.Boundary.{headingAt, eventsAt, outcomeSize, fit, answerFrom, eventsFrom, outcomeFrom};
+ghost use Rattle.lane_library.specs.Boundary.{headingAt, eventWordsAt, outcomeSize, fit, answerFrom, eventsFrom, outcomeFrom};
 
 // One more than the largest number of one byte, and of two.
 const BYTE: u32 = 0x100;
@@ -128,7 +129,7 @@ fn event_from(s: &[u32; OUTCOME_WORDS], at: usize) -> CompiledMmioEvent
 }
 
 fn events_from(s: &[u32; OUTCOME_WORDS]) -> [CompiledMmioEvent; MAX_EVENTS]
-    ensures { λ r. ⌜ r ≡ eventsFrom 32 (drop eventsAt (now (s .entry))) ⌝ }
+    ensures { λ r. ⌜ r ≡ eventsFrom maxEvents (drop eventWordsAt (now (s .entry))) ⌝ }
 {
     let none = CompiledMmioEvent {
         operation: 0,

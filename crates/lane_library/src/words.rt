@@ -9,7 +9,7 @@ ghost use mathlib.Core.List.{[], _∷_};
 ghost use Prim.Native.Nat.{_+_, _≤_};
 ghost use lib.Seq.{sets};
 ghost use Rattle.lane_record.specs.Format.{executionValues};
-ghost use Rattle.lane_library.specs.Boundary.{headingAt, eventsAt, outcomeSize, answerWords, eventWords, outcomeWords};
+ghost use Rattle.lane_library.specs.Boundary.{headingAt, eventWordsAt, outcomeSize, answerWords, eventWords, outcomeWords};
 
 // The kinds of an answer, as a record's first byte has them.
 pub const ACCEPTED: u32 = 0x01;
@@ -68,7 +68,7 @@ fn put_execution(s: &mut [u32; OUTCOME_WORDS], e: PredicateTransducerExecution)
 }
 
 fn put_events(s: &mut [u32; OUTCOME_WORDS], events: [CompiledMmioEvent; MAX_EVENTS])
-    ensures { λ r. ⌜ now (s .exit) ≡ sets (now (s .entry)) eventsAt (eventWords events) ⌝ }
+    ensures { λ r. ⌜ now (s .exit) ≡ sets (now (s .entry)) eventWordsAt (eventWords events) ⌝ }
 {
     let mut k: usize = 0;
     let mut at: usize = EVENTS_AT;

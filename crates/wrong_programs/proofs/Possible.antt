@@ -6,12 +6,12 @@ use mathlib.Core.Option.{some}
 use Rattle.predicate_semantics.specs.Blank.{noExecution}
 use Rattle.lane_record.specs.Format.{accepted, refused}
 use Rattle.wrong_programs.specs.Inputs.{Input}
-use Rattle.wrong_programs.specs.Behaviours.{Seen, AllPossible}
+use Rattle.wrong_programs.specs.Behaviours.{Observed, AllPossible}
 
-abbrev accepting : Input → Seen
+abbrev accepting : Input → Observed
 accepting x = record { recorded = some (accepted noExecution [] []); trace = x .trace }
 
-abbrev refusing : Input → Seen
+abbrev refusing : Input → Observed
 refusing x = record { recorded = some (refused (record { number = 13; role = 0; steps = 0 })); trace = x .trace }
 
 pub all-possible : AllPossible

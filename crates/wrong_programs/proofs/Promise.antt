@@ -16,7 +16,7 @@ use Rattle.predicate_semantics.specs.Standing.{standingScalarRun}
 use Rattle.predicate_semantics.specs.Standing as Standing
 use Rattle.riscv32imc_predicate.specs.Outcome.{resultIn}
 use Rattle.wrong_programs.specs.Inputs.{Input, imageOf, symbolsOf, returnsInput, returns1, returns0, jumpFirst, nopFirst}
-use Rattle.wrong_programs.specs.Behaviours.{accepts, steps, Agree}
+use Rattle.wrong_programs.specs.Behaviours.{isAccepted, steps, Agree}
 use Rattle.wrong_programs.specs.Refuted.{RunOutput, recordOf, seenOfRun, RunPromises, PromiseRefuted}
 use Rattle.wrong_programs.proofs.Table.{runs, different}
 
@@ -29,11 +29,11 @@ abbrev scalar6 : Input → Option Result
 scalar6 x = standingScalarRun (imageOf x) (symbolsOf x) firstInput (λ _. 0)
 
 -- what is accepted is a result
-result-of : (e : PredicateTransducerExecution) (n : ℕ) (t : Tested Result) → accepts (some (recordOf e n t)) ≡ true → (r : Result) × (t ≡ passed r)
+result-of : (e : PredicateTransducerExecution) (n : ℕ) (t : Tested Result) → isAccepted (some (recordOf e n t)) ≡ true → (r : Result) × (t ≡ passed r)
 result-of e n (passed r) h = (r, refl)
 result-of e n (Refusal.refused q) h = absurd (true≢false (sym h))
 
-accepted-result : (o : RunOutput) → accepts ((seenOfRun o) .recorded) ≡ true → (r : Result) × (resultIn (o .run) (o .trace) ≡ passed r)
+accepted-result : (o : RunOutput) → isAccepted ((seenOfRun o) .recorded) ≡ true → (r : Result) × (resultIn (o .run) (o .trace) ≡ passed r)
 accepted-result o = result-of (o .run .execution) (o .run .steps) (resultIn (o .run) (o .trace))
 
 abbrev returned : Option Result → ℕ
@@ -75,7 +75,7 @@ promise-refuted = record {
       (b jumpFirst nopFirst (refl, refl, refl, refl, refl) refl) in
       different 0x13 0x8067 (ap (λ (s : PredicateControlStep). s .«instruction_word») (sym (same .1 .0))) (omega arith);
   unchanging = λ p (b, v) m n.
-      let (r, e) = accepted-result (p returns0) (ap accepts (b returns0 returns1) ∙ v) in
+      let (r, e) = accepted-result (p returns0) (ap isAccepted (b returns0 returns1) ∙ v) in
       let (q, f) = accepted-result (p returns1) v in
       different 0x00000513 0x00100513
       (ap firstWord

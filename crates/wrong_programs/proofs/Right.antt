@@ -23,7 +23,7 @@ use Rattle.lane_library.specs.Inputs.{taken}
 use Rattle.lane_library.specs.Outcome.{imageRecord, imageTrace}
 use Rattle.lane_library.specs.Outcome as Library
 use Rattle.wrong_programs.specs.Inputs.{Input, imageOf, symbolsOf, runAt}
-use Rattle.wrong_programs.specs.Behaviours.{Seen, noSpaceAtOnce}
+use Rattle.wrong_programs.specs.Behaviours.{Observed, noSpaceAtOnce}
 use Rattle.wrong_programs.specs.Refuted.{Suffices, NeverAtOnce, RunOutput, recordOf, seenOfRun, RunMeets, LibraryOutput, written, seenOfLibrary, LibraryMeets}
 
 abbrev pub recordAt : Input → Record
@@ -32,7 +32,7 @@ recordAt x = imageRecord (imageOf x) (symbolsOf x) (x .rows) (x .trace)
 abbrev pub traceAt : Input → List ℕ
 traceAt x = imageTrace (imageOf x) (symbolsOf x) (x .rows) (x .trace)
 
-pub record Right (x : Input) (o : Seen) : Type 0 where
+pub record Right (x : Input) (o : Observed) : Type 0 where
   pub recorded : o .recorded ≡ some (recordAt x)
   pub trace : o .trace ≡ traceAt x
 

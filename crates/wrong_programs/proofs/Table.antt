@@ -26,7 +26,7 @@ use Rattle.predicate_semantics.specs.declared.PredicateControlStep.{PredicateCo
 use Rattle.predicate_semantics.specs.declared.PredicateTransducerExecution.{PredicateTransducerExecution}
 use Rattle.lane_record.specs.Format.{Record}
 use Rattle.wrong_programs.specs.Inputs.{Input, returnsInput, returns1, returns0, jumpFirst, nopFirst, storesAtStop, storesBelow}
-use Rattle.wrong_programs.specs.Behaviours.{Seen, accepts, numbers, counted, noSpaceAtOnce, steps, Agree}
+use Rattle.wrong_programs.specs.Behaviours.{Observed, isAccepted, numbers, otherNumbers, noSpaceAtOnce, steps, Agree}
 use Rattle.wrong_programs.specs.Refuted.{NeverAtOnce, Refuted, RunRefuted, LibraryRefuted}
 use Rattle.wrong_programs.proofs.Right.{Right, recordAt, Served, run-right, run-never, library-right, library-never}
 
@@ -41,14 +41,14 @@ written q = (numbers q) .«sparse_memory_bytes»
 pub different : (n m : ℕ) → n ≡ m → n < m → ⊥
 different n m h k = omega (arith, h, k)
 
-module _ (Output : Type 0) (seen : Output → Seen) (Meets : Input → Output → Type 0)
+module _ (Output : Type 0) (seen : Output → Observed) (Meets : Input → Output → Type 0)
     (right : (x : Input) → Served x → (o : Output) → Meets x o → Right x (seen o))
     (never : NeverAtOnce Output seen Meets) where
   refuted : Refuted Output seen Meets
   unfolding runs
   refuted = record {
     input-6-copied = λ p b m. true≢false
-        (sym (b returnsInput _ refl) ∙ ap accepts (right returnsInput (refl, refl) _ m .recorded));
+        (sym (b returnsInput _ refl) ∙ ap isAccepted (right returnsInput (refl, refl) _ m .recorded));
     trace-invented = λ p b m n.
         let same : Agree (steps (some (recordAt jumpFirst))) (steps (some (recordAt nopFirst))) =
         rw (right jumpFirst (refl, refl) _ m .recorded, right nopFirst (refl, refl) _ n .recorded) at
@@ -60,7 +60,7 @@ module _ (Output : Type 0) (seen : Output → Seen) (Meets : Input → Output �
         different 4 8
         (sym (ap written at-stop)
         ∙ b storesAtStop storesBelow (refl, refl, refl, refl, refl)
-        (ap (λ (q : Option Record). counted (numbers q)) at-stop ∙ sym (ap (λ (q : Option Record). counted (numbers q)) below))
+        (ap (λ (q : Option Record). otherNumbers (numbers q)) at-stop ∙ sym (ap (λ (q : Option Record). otherNumbers (numbers q)) below))
         ∙ ap written below)
         (omega arith);
     space-left = λ p b m. true≢false
@@ -71,7 +71,7 @@ module _ (Output : Type 0) (seen : Output → Seen) (Meets : Input → Output �
         (sym (right returns0 (refl, refl) _ m .recorded) ∙ b returns0 returns1 ∙ right returns1 (refl, refl) _ n .recorded))
         (omega arith);
     each-image-refused = λ p b m. true≢false
-        (sym (ap accepts (right returns1 (refl, refl) _ m .recorded)) ∙ b returns1);
+        (sym (ap isAccepted (right returns1 (refl, refl) _ m .recorded)) ∙ b returns1);
     left-empty = λ p b m.
         ⊎-elim
         (λ t. different 0 0x80 (ap (λ (t : List ℕ). getD t 3 0) (sym t ∙ right returns1 (refl, refl) _ m .trace)) (omega arith))

@@ -22,14 +22,14 @@ use Rattle.riscv32imc_predicate.specs.Tracking.{entryCount}
 use Rattle.wrong_programs.specs.Inputs.{Input, imageOf, symbolsOf}
 
 -- what is seen of a program at an input: the record, if there is one, and the lent trace afterwards
-pub record Seen : Type 0 where
+pub record Observed : Type 0 where
   pub recorded : Option Record
   pub trace : List ℕ
 
-abbrev pub accepts : Option Record → Bool
-accepts none = false
-accepts (some (accepted e es ss)) = true
-accepts (some (refused f)) = false
+abbrev pub isAccepted : Option Record → Bool
+isAccepted none = false
+isAccepted (some (accepted e es ss)) = true
+isAccepted (some (refused f)) = false
 
 -- the numbers of an accepted run, else zeros
 abbrev pub numbers : Option Record → PredicateTransducerExecution
@@ -50,8 +50,8 @@ Agree (s ∷ ss) [] = Unit {0}
 Agree (s ∷ ss) (t ∷ ts) = (s ≡ t) × Agree ss ts
 
 -- return value, steps and number of events
-abbrev pub counted : PredicateTransducerExecution → List ℕ
-counted e = e .«return_value» ∷ e .«symbolic_transitions» ∷ e .«event_count» ∷ []
+abbrev pub otherNumbers : PredicateTransducerExecution → List ℕ
+otherNumbers e = e .«return_value» ∷ e .«symbolic_transitions» ∷ e .«event_count» ∷ []
 
 -- 13 or 14 with no step completed
 abbrev pub noSpaceAtOnce : Option Record → Bool
@@ -75,9 +75,9 @@ Alike x y =
     (symbolsOf x ≡ symbolsOf y) × (length (x .bytes) ≡ length (y .bytes))
     × (x .rows ≡ y .rows) × (x .trace ≡ y .trace) × (x .output ≡ y .output)
 
-module _ (program : Input → Seen) where
+module _ (program : Input → Observed) where
   abbrev pub AcceptsAt : Input → Type 0
-  AcceptsAt x = accepts ((program x) .recorded) ≡ true
+  AcceptsAt x = isAccepted ((program x) .recorded) ≡ true
 
   -- 1. "a run of input 6 copied to 250 entries": it accepts what 250 lanes of input 6 pass
   abbrev pub CopiesInput6 : Type 0
@@ -93,7 +93,7 @@ module _ (program : Input → Seen) where
   abbrev pub InventsWrittenBytes : Type 0
   InventsWrittenBytes =
       (x y : Input) → Alike x y
-      → counted (numbers ((program x) .recorded)) ≡ counted (numbers ((program y) .recorded))
+      → otherNumbers (numbers ((program x) .recorded)) ≡ otherNumbers (numbers ((program y) .recorded))
       → (numbers ((program x) .recorded)) .«sparse_memory_bytes» ≡ (numbers ((program y) .recorded)) .«sparse_memory_bytes»
 
   -- 4. "13 or 14 before any step with space left": the stop word's rows are lent, and an entry
@@ -107,15 +107,15 @@ module _ (program : Input → Seen) where
 
   -- 6. "one that refuses each image"
   abbrev pub RefusesEachImage : Type 0
-  RefusesEachImage = (x : Input) → accepts ((program x) .recorded) ≡ false
+  RefusesEachImage = (x : Input) → isAccepted ((program x) .recorded) ≡ false
 
   -- 7. "one that leaves trace and record empty": either is enough
   abbrev pub LeavesEmpty : Type 0
   LeavesEmpty = (x : Input) → ((program x) .trace ≡ x .trace) ⊎ (numbers ((program x) .recorded) ≡ noExecution)
 
 -- none of them is empty: something can be seen so
-abbrev pub Possible : ((Input → Seen) → Type 0) → Type 0
-Possible Behaves = (program : Input → Seen) × Behaves program
+abbrev pub Possible : ((Input → Observed) → Type 0) → Type 0
+Possible Behaves = (program : Input → Observed) × Behaves program
 
 pub record AllPossible : Type 0 where
   pub input-6-copied : Possible CopiesInput6

@@ -34,8 +34,8 @@ abbrev pub runAt : Input → Ended
 runAt x = runOver (imageOf x) (symbolsOf x) (x .rows) (x .trace)
 
 -- an image at the example's symbols, with so many rows and entries and enough output lent, all zero
-abbrev pub given : List ℕ → ℕ → ℕ → Input
-given image rows entries =
+abbrev pub lending : List ℕ → ℕ → ℕ → Input
+lending image rows entries =
     record {
       bytes = inputBytes (symbols imageBase) image;
       rows = replicate (rows * rowBytes) 0;
@@ -45,26 +45,26 @@ given image rows entries =
 
 -- 82 80 (C.JR x1), which returns the input: refused with 7, role 6, after a step
 abbrev pub returnsInput : Input
-returnsInput = given (half 0x8082) 4 1
+returnsInput = lending (half 0x8082) 4 1
 
 -- 05 45 82 80 (C.LI x10, 1; C.JR x1), document 01's example
 abbrev pub returns1 : Input
-returns1 = given return1 4 2
+returns1 = lending return1 4 2
 
 -- .. and with 0 in place of 1
 abbrev pub returns0 : Input
-returns0 = given (half 0x4501 ++ half 0x8082) 4 2
+returns0 = lending (half 0x4501 ++ half 0x8082) 4 2
 
 -- ADDI x10, x0, 1, then C.JR x1 and a C.NOP that is not reached, or the C.NOP first
 abbrev pub jumpFirst : Input
-jumpFirst = given (word 0x00100513 ++ half 0x8082 ++ half 0x0001) 4 3
+jumpFirst = lending (word 0x00100513 ++ half 0x8082 ++ half 0x0001) 4 3
 
 abbrev pub nopFirst : Input
-nopFirst = given (word 0x00100513 ++ half 0x0001 ++ half 0x8082) 4 3
+nopFirst = lending (word 0x00100513 ++ half 0x0001 ++ half 0x8082) 4 3
 
 -- SW x0, 12(x2) over the stop word, or SW x0, 8(x2) below it, then the example
 abbrev pub storesAtStop : Input
-storesAtStop = given (word 0x00012623 ++ return1) 8 3
+storesAtStop = lending (word 0x00012623 ++ return1) 8 3
 
 abbrev pub storesBelow : Input
-storesBelow = given (word 0x00012423 ++ return1) 8 3
+storesBelow = lending (word 0x00012423 ++ return1) 8 3

@@ -19,21 +19,21 @@ use Rattle.riscv32imc_predicate.specs.declared.PredicateRun.{PredicateRun}
 use Rattle.riscv32imc_predicate.specs.Outcome.{resultIn, Ran}
 use Rattle.lane_library.specs.Outcome.{LaneRuns}
 use Rattle.wrong_programs.specs.Inputs.{Input, imageOf, symbolsOf, runAt, returnsInput, returns1, returns0, jumpFirst, nopFirst, storesAtStop, storesBelow}
-use Rattle.wrong_programs.specs.Behaviours.{Seen, noSpaceAtOnce, AcceptsAt, CopiesInput6, InventsLaterTrace, InventsWrittenBytes, RefusesWithSpaceLeft, NeverChanges, RefusesEachImage, LeavesEmpty}
+use Rattle.wrong_programs.specs.Behaviours.{Observed, noSpaceAtOnce, AcceptsAt, CopiesInput6, InventsLaterTrace, InventsWrittenBytes, RefusesWithSpaceLeft, NeverChanges, RefusesEachImage, LeavesEmpty}
 
 -- the lent rows and entries suffice for the run
 abbrev pub Suffices : Input → Type 0
 Suffices x = (r : Result) × ((runAt x) .answer ≡ passed r)
 
 -- over what a program answers and leaves, what is seen of that, and the contract
-module _ (Output : Type 0) (seen : Output → Seen) (Meets : Input → Output → Type 0) where
+module _ (Output : Type 0) (seen : Output → Observed) (Meets : Input → Output → Type 0) where
   -- it does not meet the contract at all of these inputs
   abbrev pub FailsAt : (Input → Output) → List Input → Type 0
   FailsAt program [] = ⊥
   FailsAt program (x ∷ xs) = Meets x (program x) → FailsAt program xs
 
   -- no program that behaves so does
-  abbrev pub Breaks : ((Input → Seen) → Type 0) → List Input → Type 0
+  abbrev pub Breaks : ((Input → Observed) → Type 0) → List Input → Type 0
   Breaks Behaves inputs = (program : Input → Output) → Behaves (λ x. seen (program x)) → FailsAt program inputs
 
   -- 4 at any one input: where what is lent suffices for the run, never 13 or 14 before any step
@@ -69,7 +69,7 @@ abbrev pub recordOf : PredicateTransducerExecution → ℕ → Tested Result →
 recordOf e n (passed r) = accepted e (r .events) (r .trace)
 recordOf e n (Refusal.refused q) = refused (record { number = q .number; role = q .role; steps = n })
 
-abbrev pub seenOfRun : RunOutput → Seen
+abbrev pub seenOfRun : RunOutput → Observed
 seenOfRun o = record {
   recorded = some (recordOf (o .run .execution) (o .run .steps) (resultIn (o .run) (o .trace)));
   trace = o .trace;
@@ -113,7 +113,7 @@ written (wrote n) output = decode (take n output)
 written done output = none
 written (refuses n) output = none
 
-abbrev pub seenOfLibrary : LibraryOutput → Seen
+abbrev pub seenOfLibrary : LibraryOutput → Observed
 seenOfLibrary o = record { recorded = written (writeSaid (o .answer)) (o .output); trace = o .trace }
 
 abbrev pub LibraryMeets : Input → LibraryOutput → Type 0

@@ -3,13 +3,13 @@ use Prim.Native.Nat.{_-_}
 use native.Mathlib.Omega.{arith}
 use lib.ListN.{drop}
 use borrow.Author.Needs.{needs}
-use Rattle.lane_library.specs.Boundary.{eventsAt, eventsFrom}
+use Rattle.lane_library.specs.Boundary.{eventWordsAt, eventsFrom}
 use Rattle.lane_library.proofs.WordLaws.{Gathering, gathering-start, gathering-step, gathering-exit}
 use Rattle.lane_library.proofs.from_words.events_from.Statement.{statement}
 use Rattle.lane_library.proofs.from_words.events_from.Tie as tie
 
 abbrev Inv-loop : tie.InvT-loop
-Inv-loop s events₀ k₀ at₀ events k at = Gathering s (eventsFrom 32 (drop eventsAt s)) events k at
+Inv-loop s events₀ k₀ at₀ events k at = Gathering s (eventsFrom 32 (drop eventWordsAt s)) events k at
 
 abbrev μ-loop : tie.MeasureT-loop
 μ-loop s events₀ k₀ at₀ events k at = 32 - k

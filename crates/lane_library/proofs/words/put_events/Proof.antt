@@ -2,13 +2,13 @@ use Prim.Native.Nat.{_-_}
 use native.Mathlib.Omega.{arith}
 use lib.Seq.{sets}
 use borrow.Author.Needs.{needs}
-use Rattle.lane_library.specs.Boundary.{eventsAt, eventWords}
+use Rattle.lane_library.specs.Boundary.{eventWordsAt, eventWords}
 use Rattle.lane_library.proofs.WordLaws.{Wording, wording-start, wording-step, wording-exit}
 use Rattle.lane_library.proofs.words.put_events.Statement.{statement}
 use Rattle.lane_library.proofs.words.put_events.Tie as tie
 
 abbrev Inv-loop : tie.InvT-loop
-Inv-loop s₀ events k₀ at₀ s k at = Wording events (sets s₀ eventsAt (eventWords events)) s k at
+Inv-loop s₀ events k₀ at₀ s k at = Wording events (sets s₀ eventWordsAt (eventWords events)) s k at
 
 abbrev μ-loop : tie.MeasureT-loop
 μ-loop s₀ events k₀ at₀ s k at = 32 - k
