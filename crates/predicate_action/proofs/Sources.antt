@@ -1,11 +1,11 @@
 -- The registers that the action of a decoded operation reads are below 32, so that they index the run's registers. Assumes nothing.
-use mathlib.Core.Bool.{Bool, _&&_}
+use mathlib.Core.Bool.{Bool, true, false, _&&_}
 use mathlib.Core.Path.{_≡_, refl, sym, ap, subst, _∙_}
 use mathlib.Core.List.{List}
-use Prim.Native.Nat.{ℕ, _<_}
+use Prim.Native.Nat.{ℕ, _<_, _%_}
 use native.Mathlib.Omega.{arith}
 use borrow.Author.Tests.{lt-ltb}
-use lib.Dec.{T, ltb, ltb→lt}
+use lib.Dec.{T, eqb, ltb, ltb→lt}
 use lib.Ieee.Fits.{and-l, and-r}
 use Rattle.riscv_decode.specs.declared.Operation.{Operation}
 use Rattle.riscv_decode.specs.declared.Decoded.{Decoded}
@@ -16,9 +16,10 @@ use Rattle.riscv_decode.specs.Listing.{listing, operation}
 use Rattle.riscv_decode.specs.Decode.{decodeOf}
 use Rattle.riscv_decode.proofs.Listed.{allLines, decoded-passes}
 use Rattle.predicate_semantics.specs.Meaning.{register, immediate, Meaning, nothing, literal, compute, jump, jumpTo, branch, load, store, meaning}
+use Rattle.predicate_semantics.specs.Choice.{choose}
 use Rattle.predicate_semantics.specs.Memory.{LaneBytes}
 use Rattle.predicate_semantics.specs.Refusal.{Tested, passed, refused, refuse, found, _>>=_}
-use Rattle.predicate_semantics.specs.Lane.{fetchWord, fetch}
+use Rattle.predicate_semantics.specs.Lane.{decodeWord, expandHalfword, accessAgreed, fetchFour, fetch}
 use Rattle.predicate_semantics.specs.Standing.{decodedOperation, standingCore}
 use Rattle.predicate_action.specs.Action.{meaningOf, firstSource, secondSource}
 use Rattle.predicate_action.specs.declared.Action.{Action}
@@ -73,22 +74,33 @@ abbrev Decodes : Tested Fetched → Type 0
 Decodes (passed f) = decodeOf (f .word) ≡ Known (f .operation)
 Decodes (refused r) = Unit {0}
 
-abbrev fetchedOf : ℕ × ℕ → Decoded → Tested Fetched
-fetchedOf w d = found 9 (decodedOperation d) >>= λ o. passed (record { operation = o; length = w .1; word = w .0 })
+word-decodes : (steps word n : ℕ) → Decodes (decodeWord standingCore steps word n)
+unfolding decodeWord standingCore _>>=_ found refuse decodedOperation
+word-decodes steps word n = go (decodeOf word) refl
+  where
+    go : (d : Decoded) → decodeOf word ≡ d → Decodes (found 9 (decodedOperation d) >>= λ o. passed (record { operation = o; length = n; word = word }))
+    go (Known o) e = e
+    go Refused e = tt
 
-known-decodes : (w : ℕ × ℕ) (d : Decoded) → decodeOf (w .0) ≡ d → Decodes (fetchedOf w d)
-unfolding _>>=_ found refuse decodedOperation
-known-decodes w (Known o) e = e
-known-decodes w Refused e = tt
-
-word-decodes : (t : Tested (ℕ × ℕ)) → Decodes (t >>= λ w. fetchedOf w (decodeOf (w .0)))
+-- where the word comes from a part that is tested
+from-tested : (t : Tested ℕ) (f : ℕ → Tested Fetched) → ((v : ℕ) → Decodes (f v)) → Decodes (t >>= f)
 unfolding _>>=_
-word-decodes (passed w) = known-decodes w (decodeOf (w .0)) refl
-word-decodes (refused r) = tt
+from-tested (passed v) f h = h v
+from-tested (refused r) f h = tt
+
+from-either : (b : Bool) (f g : Unit {0} → Tested Fetched) → Decodes (f tt) → Decodes (g tt) → Decodes (choose b f g)
+unfolding choose
+from-either true f g x y = x
+from-either false f g x y = y
 
 fetched-decodes : (inputs : List ℕ) (m : LaneBytes) (steps pc : ℕ) (f : Fetched) → fetch inputs standingCore m steps pc ≡ passed f → decodeOf (f .word) ≡ Known (f .operation)
-unfolding fetch standingCore
-fetched-decodes inputs m steps pc f e = subst Decodes e (word-decodes (fetchWord inputs standingCore m pc))
+unfolding fetch fetchFour expandHalfword
+fetched-decodes inputs m steps pc f e =
+    subst Decodes e
+    (from-tested (accessAgreed inputs 1 m 2 pc) _ (λ half.
+    from-either (eqb (half % 4) 3) _ _
+    (from-tested (accessAgreed inputs 1 m 4 pc) _ (λ word. word-decodes steps word 4))
+    (from-tested (found 8 (standingCore .expand half)) _ (λ word. word-decodes steps word 2))))
 
 -- the same of a fetched operation
 pub fetched-sources : (inputs : List ℕ) (m : LaneBytes) (steps pc at : ℕ) (f : Fetched) (a : Action)

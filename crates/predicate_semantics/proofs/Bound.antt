@@ -4,6 +4,7 @@ use mathlib.Core.Bool.{true}
 use mathlib.Core.List.{List, [], _∷_, _++_}
 use Prim.Native.Nat.{ℕ, zero, suc, _+_, _≤_, _<_}
 use native.Mathlib.Omega.{arith}
+use lib.ListN.{length}
 use borrow.Author.Tests.{lt-ltb, le-leb, eq-eqb}
 use Rattle.riscv32imc.specs.Arithmetic.{add}
 use Rattle.riscv32imc.specs.Constants.{imageBase}
@@ -14,7 +15,7 @@ use Rattle.predicate_semantics.specs.declared.PredicateControlStep.{Pred
 use Rattle.predicate_semantics.specs.Program.{Program, sized, inMemory, placed}
 use Rattle.predicate_semantics.specs.State.{sets, assign, advance, apply}
 use Rattle.predicate_semantics.specs.Refusal.{passed, refuse, require, _>>=_}
-use Rattle.predicate_semantics.specs.Lane.{LaneState, Setup, Ended, on, lanes, look, step, run, begin, start, laneRun}
+use Rattle.predicate_semantics.specs.Lane.{LaneState, Setup, Ended, on, lanes, look, step, run, startTests, begin, start, laneRun}
 use Rattle.predicate_semantics.specs.Standing.{standing, setup, standingLaneRun}
 use Rattle.predicate_semantics.specs.Cases.{symbols, refuses, meets, holds}
 use Rattle.predicate_semantics.specs.Bound.{RefusedAtBound, StepBound}
@@ -49,8 +50,8 @@ module _ (image : List ℕ) (rows entries : ℕ) where
   Spins bytes = (n : ℕ) (trace : List PredicateControlStep)
       → look p l (spun n trace) ≡ passed (record { fetched = jump-to-itself bytes; effect = sets 0 (constant (lanes p l) (add imageBase bytes)) imageBase })
 
-  starts : sized image ≡ true → 4 ≤ rows → start p l ≡ passed (spun 0 [])
-  unfolding start placed inMemory require _>>=_ begin standing setup symbols
+  starts : sized (length image) ≡ true → 4 ≤ rows → start p l ≡ passed (spun 0 [])
+  unfolding start startTests placed inMemory require _>>=_ begin standing setup symbols
   starts small lent = rw (small, le-leb 4 rows lent)
 
   module _ (bytes : ℕ) (spins : Spins bytes) where
@@ -78,7 +79,7 @@ refused-after : (e : Ended) (steps : ℕ) → e .answer ≡ refuse 3 0 → e .st
 unfolding meets refuse
 refused-after e steps answer counted = rw (answer, counted, eq-eqb steps steps refl)
 
-refused-at-bound : (image : List ℕ) (bytes : ℕ) → sized image ≡ true → ((rows entries : ℕ) → Spins image rows entries bytes) → RefusedAtBound image
+refused-at-bound : (image : List ℕ) (bytes : ℕ) → sized (length image) ≡ true → ((rows entries : ℕ) → Spins image rows entries bytes) → RefusedAtBound image
 unfolding holds standingLaneRun laneRun on
 refused-at-bound image bytes small spins rows entries lent enough =
     let ends = run-spun image rows entries bytes (spins rows entries) 1000000 0 [] (omega arith) in

@@ -24,15 +24,15 @@ unfolding Bits.signExtend Listing.listing Listing.operation Listing.fixed Rows.m
 decoding = tt
 
 unfoldable pub words : Unit {0}
-unfolding Word.unknown Word.constant Word.domain Word.zip Word.unary Word.binary Word.every Word.inputs
+unfolding Word.unknown Word.constant Word.domain Word.zip Word.unary Word.binary Word.every Word.uniformOf Word.inputs
 words = tt
 
 unfoldable pub running : Unit {0}
-unfolding Choice.choose Meaning.meaning Program.initial Program.sized Program.inMemory Program.placed State.fill State.atStart State.assign State.recorded State.advance State.apply Memory.byteAt Memory.laneBytes Memory.put Memory.read Memory.write Refusal._>>=_ Refusal.refuse Refusal.require Refusal.found Lane.inside Lane.on Lane.lanes Lane.memoryOf Lane.agreed Lane.access Lane.accessAgreed Lane.fetchWord Lane.fetch Lane.reg Lane.operand Lane.execute Lane.look Lane.step Lane.events Lane.finish Lane.run Lane.begin Lane.start Lane.laneRun
+unfolding Choice.choose Meaning.meaning Program.initial Program.sized Program.inMemory Program.placed State.fill State.atStart State.assign State.recorded State.advance State.apply Memory.byteAt Memory.laneBytes Memory.put Memory.read Memory.write Refusal._>>=_ Refusal.refuse Refusal.require Refusal.found Lane.inside Lane.on Lane.lanes Lane.memoryOf Lane.agreed Lane.startTests Lane.roomFor Lane.decodeWord Lane.expandHalfword Lane.access Lane.accessAgreed Lane.fetchFour Lane.fetch Lane.eventAt Lane.reg Lane.operand Lane.execute Lane.look Lane.step Lane.events Lane.finishEvents Lane.finish Lane.run Lane.begin Lane.start Lane.laneRun
 running = tt
 
 unfoldable pub scalar : Unit {0}
-unfolding Scalar._>>=_ Scalar.require Scalar.put Scalar.read Scalar.write Scalar.inside Scalar.access Scalar.reg Scalar.operand Scalar.fetchWord Scalar.fetch Scalar.execute Scalar.look Scalar.step Scalar.events Scalar.finish Scalar.run Scalar.start Scalar.scalarRun
+unfolding Scalar._>>=_ Scalar.require Scalar.put Scalar.read Scalar.write Scalar.inside Scalar.startTests Scalar.roomFor Scalar.access Scalar.eventAt Scalar.reg Scalar.operand Scalar.decodeWord Scalar.expandHalfword Scalar.fetchFour Scalar.fetch Scalar.execute Scalar.look Scalar.step Scalar.events Scalar.finish Scalar.run Scalar.start Scalar.scalarRun
 scalar = tt
 
 unfoldable pub standing : Unit {0}

@@ -5,7 +5,7 @@ pub mod Values
 pub mod Steps
 pub mod Guarantee
 pub mod Laws
-mod Computing
+pub mod Computing
 pub mod Cases
 pub mod Bound
 pub mod Limits

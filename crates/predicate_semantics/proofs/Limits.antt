@@ -7,7 +7,7 @@ use native.Mathlib.Omega.{arith}
 use lib.Dec.{eqb}
 use borrow.Author.Tests.{eqb-false}
 use Rattle.predicate_semantics.specs.Choice.{choose}
-use Rattle.predicate_semantics.specs.Program.{Program, stop, sized, placed}
+use Rattle.predicate_semantics.specs.Program.{Program, stop}
 use Rattle.predicate_semantics.specs.State.{Result, apply}
 use Rattle.predicate_semantics.specs.Refusal.{Tested, passed, refused, refuse}
 use Rattle.predicate_semantics.specs.Lane.{LaneState, Setup, Ended, on, step, run, begin, start, laneRun}
@@ -172,8 +172,7 @@ module _ (p : Program) where
   scalar-none-yet : (input : ℕ) (others : ℕ → ℕ) (s : ScalarState) → Scalar.start p input others ≡ some s → s .steps ≡ 0
   unfolding Scalar.start
   scalar-none-yet input others s q =
-      let small = through (Scalar.require (sized (p .image))) q in
-      ap counted (sym (through (Scalar.require (placed (p .symbols))) (small .2) .2))
+      ap counted (sym (through (Scalar.startTests _ _) q .2))
     where
       counted : Option ScalarState → ℕ
       counted none = 0

@@ -1,6 +1,6 @@
 -- The record's rules hold of every run.
 use mathlib.Core.Path.{_≡_, refl, sym, _∙_, subst}
-use mathlib.Core.Bool.{Bool, true, false, _&&_}
+use mathlib.Core.Bool.{Bool, true, false, _&&_, cond}
 use mathlib.Core.Logic.{_⊎_, inl, inr}
 use mathlib.Core.List.{List, [], _∷_, _++_, map}
 use Prim.Native.Nat.{ℕ, zero, suc, _+_, _-_, _≤_, _<_, _%_, _^_}
@@ -16,7 +16,8 @@ use Rattle.riscv_decode.specs.declared.Fetched.{Fetched}
 use Rattle.riscv_decode.specs.declared.Operation.{Operation}
 use Rattle.riscv_decode.specs.declared.Operation.the-variants.{Lui, Auipc, Jal, Jalr, Beq, Bne, Blt, Bge, Bltu, Bgeu, Lb, Lh, Lw, Lbu, Lhu, Sb, Sh, Sw, Addi, Slti, Sltiu, Xori, Ori, Andi, Slli, Srli, Srai, Add, Sub, Sll, Slt, Sltu, Xor, Srl, Sra, Or, And, Mul, Div, Divu, Rem, Remu, Fence, FenceI}
 use Rattle.lane_word.specs.declared.LaneWord.{LaneWord}
-use Rattle.lane_word.specs.Word.{unknown, constant, domain, zip, unary, binary, every, inputs}
+use Rattle.lane_word.specs.declared.Uniform.the-variants.{Value, Unknown, Uneven}
+use Rattle.lane_word.specs.Word.{unknown, constant, domain, zip, unary, binary, every, uniformOf, inputs}
 use Rattle.predicate_semantics.specs.declared.CompiledMmioEvent.{CompiledMmioEvent}
 use Rattle.predicate_semantics.specs.declared.PredicateControlStep.{PredicateControlStep}
 use Rattle.predicate_semantics.specs.declared.Rv32SymbolLayout.{Rv32SymbolLayout}
@@ -26,7 +27,7 @@ use Rattle.predicate_semantics.specs.Program.{Program, memoryEnd, stop, 
 use Rattle.predicate_semantics.specs.State.{Result, Effect, goes, sets, stores, Looked, fill, atStart, recorded, advance, apply}
 use Rattle.predicate_semantics.specs.Memory.{Written, LaneBytes, put, read, write}
 use Rattle.predicate_semantics.specs.Refusal.{Refusal, Tested, passed, refused, refuse, _>>=_}
-use Rattle.predicate_semantics.specs.Lane.{LaneState, Setup, Ended, on, inside, lanes, memoryOf, agreed, reg, access, accessAgreed, fetchWord, fetch, execute, look, step, events, finish, run, begin, start, laneRun}
+use Rattle.predicate_semantics.specs.Lane.{LaneState, Setup, Ended, on, inside, lanes, memoryOf, agreedAs, agreed, reg, access, accessAgreed, startTests, roomFor, decodeWord, expandHalfword, fetchFour, fetch, eventAt, execute, look, step, events, finishEvents, finish, run, begin, start, laneRun}
 use Rattle.predicate_semantics.specs.Standing.{standingCore, standing, setup, standingLaneRun}
 use Rattle.predicate_semantics.specs.RecordRules.{Chain, Words, ExpandsToWords, Completed, Accepted, TakesStep, proper}
 use Rattle.predicate_semantics.proofs.Lists.{both-left, both-right}
@@ -145,7 +146,7 @@ module _ (p : Program) (l : Setup) where
   abbrev pub Sized : Type 0
   Sized = (0 < length (p .image)) × (length (p .image) ≤ maxImageBytes)
 
-  fit : T (sized (p .image)) → Sized
+  fit : T (sized (length (p .image))) → Sized
   unfolding sized
   fit t =
       let some : Bool = ltb 0 (length (p .image)) in
@@ -228,11 +229,11 @@ module _ (p : Program) (l : Setup) where
 
   -- the value that lanes agree on is lane 0's
   always-agreed : (role : ℕ) (w : LaneWord) → T (leb 1 role && leb role 10) → Always (λ v. v ≡ getD (w .values) 0 0) (agreed role w)
-  unfolding agreed choose refuse proper
+  unfolding agreed uniformOf refuse proper
   always-agreed role w t = go (w .known) (every (getD (w .values) 0 0) (w .values))
     where
       go : (b c : Bool)
-          → Always (λ v. v ≡ getD (w .values) 0 0) (choose b (λ _. choose c (λ _. passed (getD (w .values) 0 0)) (λ _. refuse 7 role)) (λ _. refuse 6 role))
+          → Always (λ v. v ≡ getD (w .values) 0 0) (agreedAs role (cond b (cond c (Value (getD (w .values) 0 0)) Uneven) Unknown))
       go true true = gives refl
       go true false = stops _ t
       go false c = stops _ t
@@ -242,6 +243,13 @@ module _ (p : Program) (l : Setup) where
   always-inside a n =
       bind (always-require 4 _ tt) (λ u t.
       weaken (always-require 5 _ tt) (λ u t. leb→le _ _ t))
+
+  always-roomFor : (end rows a n written : ℕ) → Always (λ _. (end ≤ a) × (a + n ≤ memoryEnd) × (written ≤ rows)) (roomFor end rows a n written)
+  unfolding roomFor proper
+  always-roomFor end rows a n written =
+      bind (always-inside a n) (λ u high.
+      bind (always-require 11 _ tt) (λ u low.
+      weaken (always-require 13 _ tt) (λ u few. (leb→le _ _ low, high, leb→le _ _ few))))
 
   always-access : (m : LaneBytes) (n a : ℕ) → Always (λ w. w ≡ read (length (l .inputs)) m n a) (access (l .inputs) m n a)
   unfolding access
@@ -254,20 +262,17 @@ module _ (p : Program) (l : Setup) where
       bind (always-access m n a) (λ w e.
       weaken (always-agreed role w t) (λ v f. rw (f, e) (first-read (length (l .inputs)) m n a)))
 
-  always-fetchWord : (m : LaneBytes) (pc : ℕ)
-      → Always (λ w. ((w .1 ≡ 2) ⊎ (w .1 ≡ 4)) × (ExpandsToWords (p .core) → w .0 < 2 ^ 32)) (fetchWord (l .inputs) (p .core) m pc)
-  unfolding fetchWord proper
-  always-fetchWord m pc =
-      bind (always-accessAgreed 1 m 2 pc tt) (λ half _.
-      always-choose (eqb (half % 4) 3)
-      (λ _. bind (always-accessAgreed 1 m 4 pc tt) (λ word h. gives (inr refl, λ x. h)))
-      (λ _. bind (always-found 8 (p .core .expand half) tt) (λ word e. gives (inl refl, λ x. x half word e))))
+  always-decodeWord : (steps word n : ℕ) → (n ≡ 2) ⊎ (n ≡ 4) → (ExpandsToWords (p .core) → word < 2 ^ 32) → Always Short (decodeWord (p .core) steps word n)
+  unfolding decodeWord proper
+  always-decodeWord steps word n h x = bind (always-found 9 _ tt) (λ operation _. gives (record { size = h; word-fits = x }))
 
   always-fetch : (m : LaneBytes) (steps pc : ℕ) → Always Short (fetch (l .inputs) (p .core) m steps pc)
-  unfolding fetch proper
+  unfolding fetch fetchFour expandHalfword proper
   always-fetch m steps pc =
-      bind (always-fetchWord m pc) (λ w h.
-      bind (always-found 9 _ tt) (λ operation _. gives (record { size = h .0; word-fits = h .1 })))
+      bind (always-accessAgreed 1 m 2 pc tt) (λ half _.
+      always-choose (eqb (half % 4) 3)
+      (λ _. bind (always-accessAgreed 1 m 4 pc tt) (λ word h. always-decodeWord steps word 4 (inr refl) (λ x. h)))
+      (λ _. bind (always-found 8 (p .core .expand half) tt) (λ word e. always-decodeWord steps word 2 (inl refl) (λ x. x half word e))))
 
   always-execute : (s : LaneState) (next : ℕ) (d : Meaning) → next < 2 ^ 32 → Leads d → Always (Clear s) (execute p l s next d)
   unfolding execute proper unary
@@ -284,9 +289,7 @@ module _ (p : Program) (l : Setup) where
       bind (always-access (memoryOf p l s) n address) (λ w _. gives h))
   always-execute s next (store a b offset n) h g =
       bind (always-agreed 4 _ tt) (λ address _.
-      bind (always-inside address n) (λ u high.
-      bind (always-require 11 _ tt) (λ u low.
-      bind (always-require 13 _ tt) (λ u rows. gives (h, leb→le _ _ low, high, leb→le _ _ rows)))))
+      bind (always-roomFor (imageEnd p) (l .rows) address n _) (λ u room. gives (h, room .0, room .1, room .2)))
 
   always-look : (s : LaneState) → Always (λ (seen : Looked LaneWord). Short (seen .fetched) × Clear s (seen .effect)) (look p l s)
   unfolding look
@@ -301,15 +304,20 @@ module _ (p : Program) (l : Setup) where
       bind (always-require 14 _ tt) (λ u t.
       gives (kept-apply (seen .fetched) (seen .effect) k (h .0) (h .1) (ltb→lt _ _ t), steps-apply write _ s (seen .fetched) (seen .effect))))
 
+  always-eventAt : (m : LaneBytes) (a location : ℕ) → Always (λ _. Unit {0}) (eventAt (l .inputs) m a location)
+  unfolding eventAt
+  always-eventAt m a location =
+      bind (always-accessAgreed 8 m 4 a tt) (λ o _.
+      bind (always-accessAgreed 9 m 4 _ tt) (λ f _.
+      bind (always-accessAgreed 10 m 4 _ tt) (λ v _. gives tt)))
+
   always-events : (m : LaneBytes) (i : ℕ) (done : List CompiledMmioEvent) (ls : List ℕ)
       → Always (λ es. length es ≡ length done + length ls) (events p l m i done ls)
   unfolding events
   always-events m i done [] = gives {a = done} (omega arith)
   always-events m i done (x ∷ ls) =
-      bind (always-accessAgreed 8 m 4 _ tt) (λ o _.
-      bind (always-accessAgreed 9 m 4 _ tt) (λ f _.
-      bind (always-accessAgreed 10 m 4 _ tt) (λ v _.
-      weaken (always-events m (suc i) _ ls) (λ es e. e ∙ simp length-append (omega arith)))))
+      bind (always-eventAt m _ x) (λ e _.
+      weaken (always-events m (suc i) _ ls) (λ es e. e ∙ simp length-append (omega arith)))
 
   -- what an answer has from the state at stop
   record Answered (s : LaneState) (r : Result) : Type 0 where
@@ -319,7 +327,7 @@ module _ (p : Program) (l : Setup) where
     as-located : length (r .events) ≡ length (s .locations)
 
   always-finish : (s : LaneState) → Always (Answered s) (finish p l s)
-  unfolding finish proper
+  unfolding finish finishEvents proper
   always-finish s =
       bind (always-agreed 6 _ tt) (λ value _.
       bind (always-accessAgreed 7 (memoryOf p l s) 4 _ tt) (λ count _.
@@ -396,12 +404,16 @@ module _ (p : Program) (l : Setup) where
   pub kept-step : (s t : LaneState) → Kept s → step p l s ≡ passed t → Kept t
   kept-step s t k q = passes (rw q at (always-step s k)) .0
 
+  always-startTests : Always (λ _. Sized × (p .symbols .entry < 2 ^ 32) × (4 ≤ l .rows)) (startTests (length (p .image)) (p .symbols) (l .rows))
+  unfolding startTests proper
+  always-startTests =
+      bind (always-require 1 _ tt) (λ u small.
+      bind (always-require 2 _ tt) (λ u within.
+      weaken (always-require 13 _ tt) (λ u rows. (fit small, entry-fits within, leb→le _ _ rows))))
+
   always-start : Always (λ s. Kept s × (s ≡ begin p l)) (start p l)
-  unfolding start proper
-  always-start =
-      bind (always-require 1 _ tt) (λ u sized.
-      bind (always-require 2 _ tt) (λ v placed.
-      bind (always-require 13 _ tt) (λ w rows. gives (begin-kept (fit sized) (entry-fits placed) (leb→le _ _ rows), refl))))
+  unfolding start
+  always-start = bind always-startTests (λ u h. gives (begin-kept (h .0) (h .1) (h .2), refl))
 
   pub kept-start : (s : LaneState) → start p l ≡ passed s → Kept s × (s ≡ begin p l)
   kept-start s q = passes (rw q at always-start)
@@ -437,7 +449,7 @@ module _ (p : Program) (l : Setup) where
 -- x10 is the input: at entry = stop the return value is not uniform
 uneven : (image : List ℕ) (symbols : Rv32SymbolLayout) (rows entries : ℕ)
     → finish (standing image symbols) (setup rows entries) (begin (standing image symbols) (setup rows entries)) ≡ refuse 7 6
-unfolding finish begin standing setup standingCore fill atStart choose reg agreed every domain inputs refuse _>>=_ lanes constant unknown
+unfolding finish begin standing setup standingCore fill atStart choose reg agreed every uniformOf domain inputs refuse _>>=_ lanes constant unknown
 uneven image symbols rows entries = refl
 
 always-on : {P : LaneState → Type 0} {Q : Result → Type 0} (s : LaneState) {m : Tested LaneState} (f : LaneState → Ended)

@@ -51,6 +51,13 @@ unfolding require refuse Scalar.require
 sim-require number true = agrees refl
 sim-require number false = stops
 
+-- a last test that only the lane run makes
+pub sim-last : (number : ℕ) (b : Bool) {m : Tested (Unit {0})} {o : Option (Unit {0})} → Sim _≡_ m o
+    → Sim _≡_ (Lane._>>=_ m (λ _. require number b)) o
+unfolding require refuse
+sim-last number true s = bind-into s (λ u v e. agrees refl)
+sim-last number false s = bind-into s (λ u v e. stops)
+
 pub sim-found : {A : Type 0} (number : ℕ) (o : Option A) → Sim _≡_ (found number o) o
 unfolding found refuse
 sim-found number none = stops

@@ -12,6 +12,7 @@ use Rattle.riscv_decode.specs.declared.Fetched.{Fetched}
 use Rattle.lane_word.specs.declared.LaneWord.{LaneWord}
 use Rattle.lane_word.specs.Word.{constant}
 use Rattle.predicate_semantics.specs.declared.CompiledMmioEvent.{CompiledMmioEvent}
+use Rattle.predicate_semantics.specs.declared.Rv32SymbolLayout.{Rv32SymbolLayout}
 use Rattle.predicate_semantics.specs.Choice.{choose}
 use Rattle.predicate_semantics.specs.Meaning.{Operand, register, immediate, Meaning, nothing, literal, compute, jump, jumpTo, branch, load, store}
 use Rattle.predicate_semantics.specs.Program.{Program, memoryEnd, stop, stopWord, stackPointer}
@@ -23,7 +24,7 @@ use Rattle.predicate_semantics.specs.Lane.{LaneState, Setup, lanes, reg,
 use Rattle.predicate_semantics.specs.Lane as Lane
 use Rattle.predicate_semantics.specs.Scalar.{Bytes, ScalarState}
 use Rattle.predicate_semantics.specs.Scalar as Scalar
-use Rattle.predicate_semantics.proofs.Sim.{Sim, stops, agrees, bind, bind-same, bind-lane, bind-value, bind-into, sim-require, sim-found, sim-choose, sim-ended, bind-ended}
+use Rattle.predicate_semantics.proofs.Sim.{Sim, stops, agrees, bind, bind-same, bind-lane, bind-value, bind-into, sim-require, sim-last, sim-found, sim-choose, sim-ended, bind-ended}
 use Rattle.predicate_semantics.proofs.Values.{At, at-unary, at-binary, at-unknown, sim-agreed, Regs, regs-at, regs-assign, regs-fill, at-start, Mem, at-constant, at-domain, at-read, mem-write, mem-initial}
 
 -- the scalar state with a lane state's progress
@@ -33,6 +34,14 @@ view s rs m = record { pc = s .pc; registers = rs; memory = m; steps = s .steps;
 pub sim-inside : (a n : ℕ) → Sim _≡_ (Lane.inside a n) (Scalar.inside a n)
 unfolding Lane.inside Scalar.inside
 sim-inside a n = bind-same (sim-require 4 (leb imageBase a)) (λ _. sim-require 5 (leb (a + n) memoryEnd))
+
+sim-roomFor : (end rows a n written : ℕ) → Sim _≡_ (Lane.roomFor end rows a n written) (Scalar.roomFor end a n)
+unfolding Lane.roomFor Scalar.roomFor
+sim-roomFor end rows a n written = bind-same (sim-inside a n) (λ _. sim-last 13 _ (sim-require 11 _))
+
+sim-startTests : (size : ℕ) (symbols : Rv32SymbolLayout) (rows : ℕ) → Sim _≡_ (Lane.startTests size symbols rows) (Scalar.startTests size symbols)
+unfolding Lane.startTests Scalar.startTests
+sim-startTests size symbols rows = bind-same (sim-require 1 _) (λ _. sim-last 13 _ (sim-require 2 _))
 
 module _ (image inputs : List ℕ) (k : ℕ) where
   -- a scalar state that goes with a lane state, as lane k has it
@@ -62,29 +71,32 @@ module _ (p : Program) (l : Setup) (k input : ℕ) (here : getElem? (l .inputs) 
     unfolding Lane.accessAgreed
     sim-accessAgreed role n a = bind-into (sim-access n a) (λ w v h. sim-agreed role h)
 
-    pub sim-fetchWord : (pc : ℕ) → Sim _≡_ (Lane.fetchWord (l .inputs) (p .core) bytes pc) (Scalar.fetchWord p m pc)
-    unfolding Lane.fetchWord Scalar.fetchWord
-    sim-fetchWord pc = bind-same (sim-accessAgreed 1 2 pc) (λ half.
-        sim-choose (eqb (half % 4) 3)
-        (λ _. bind-same (sim-accessAgreed 1 4 pc) (λ word. agrees refl))
-        (λ _. bind-same (sim-found 8 (p .core .expand half)) (λ word. agrees refl)))
+    sim-eventAt : (a location : ℕ) → Sim _≡_ (Lane.eventAt (l .inputs) bytes a location) (Scalar.eventAt m a location)
+    unfolding Lane.eventAt Scalar.eventAt
+    sim-eventAt a location =
+        bind-same (sim-accessAgreed 8 4 a) (λ o.
+        bind-same (sim-accessAgreed 9 4 _) (λ f.
+        bind-same (sim-accessAgreed 10 4 _) (λ v. agrees refl)))
 
     sim-events : (i : ℕ) (done : List CompiledMmioEvent) (ls : List ℕ)
         → Sim _≡_ (Lane.events p l bytes i done ls) (Scalar.events p m i done ls)
     unfolding Lane.events Scalar.events
     sim-events i done [] = agrees refl
     sim-events i done (x ∷ ls) =
-        bind-same (sim-accessAgreed 8 4 _) (λ o.
-        bind-same (sim-accessAgreed 9 4 _) (λ f.
-        bind-same (sim-accessAgreed 10 4 _) (λ v. sim-events (suc i) _ ls)))
+        bind-same (sim-eventAt _ x) (λ e. sim-events (suc i) _ ls)
 
   module _ (s : LaneState) (rs : List ℕ) (m : Bytes)
       (regs : Regs (length (l .inputs)) k (s .registers) rs) (mem : Mem (p .image) (l .inputs) k (s .memory) m) where
+    sim-decodeWord : (word n : ℕ) → Sim _≡_ (Lane.decodeWord (p .core) (s .steps) word n) (Scalar.decodeWord p (view s rs m) word n)
+    unfolding Lane.decodeWord Scalar.decodeWord
+    sim-decodeWord word n = bind-same (sim-found 9 _) (λ operation. agrees refl)
+
     pub sim-fetch : Sim _≡_ (Lane.fetch (l .inputs) (p .core) (Lane.memoryOf p l s) (s .steps) (s .pc)) (Scalar.fetch p (view s rs m))
-    unfolding Lane.fetch Scalar.fetch Lane.memoryOf lanes
-    sim-fetch =
-        bind-same (sim-fetchWord (s .memory) m mem (s .pc)) (λ w.
-        bind-same (sim-found 9 _) (λ operation. agrees refl))
+    unfolding Lane.fetch Scalar.fetch Lane.fetchFour Scalar.fetchFour Lane.expandHalfword Scalar.expandHalfword Lane.memoryOf lanes
+    sim-fetch = bind-same (sim-accessAgreed (s .memory) m mem 1 2 _) (λ half.
+        sim-choose (eqb (half % 4) 3)
+        (λ _. bind-same (sim-accessAgreed (s .memory) m mem 1 4 _) (λ word. sim-decodeWord word 4))
+        (λ _. bind-same (sim-found 8 (p .core .expand half)) (λ word. sim-decodeWord word 2)))
 
     pub at-reg : (i : ℕ) → At (length (l .inputs)) k (reg p l s i) (Scalar.reg (view s rs m) i)
     unfolding reg Scalar.reg lanes
@@ -112,9 +124,7 @@ module _ (p : Program) (l : Setup) (k input : ℕ) (here : getElem? (l .inputs) 
         (bind (sim-access (s .memory) m mem n _) (λ w v h. agrees (same-sets rd next (at-unary extend h))))
     sim-execute next (store a b offset n) =
         bind-value _ (sim-agreed 4 (at-unary (λ v. add v offset) (at-reg a)))
-        (bind-same (sim-inside _ n) (λ _.
-        bind-same (sim-require 11 _) (λ _.
-        bind-lane (require 13 _) (λ _. agrees (same-stores _ n next (at-reg b))))))
+        (bind-same (sim-roomFor _ _ _ n _) (λ _. agrees (same-stores _ n next (at-reg b))))
 
     pub sim-look : Sim (Seen (length (l .inputs)) k) (Lane.look p l s) (Scalar.look p (view s rs m))
     unfolding Lane.look Scalar.look
@@ -138,7 +148,7 @@ module _ (p : Program) (l : Setup) (k input : ℕ) (here : getElem? (l .inputs) 
     sim-step = bind sim-look (λ a b h. bind-lane (require 14 _) (λ _. agrees (seen-related _ h)))
 
     pub sim-finish : Sim _≡_ (Lane.finish p l s) (Scalar.finish p (view s rs m))
-    unfolding Lane.finish Scalar.finish Lane.memoryOf lanes
+    unfolding Lane.finish Lane.finishEvents Scalar.finish Lane.memoryOf lanes
     sim-finish =
         bind-value _ (sim-agreed 6 (at-reg 10))
         (bind-same (sim-accessAgreed (s .memory) m mem 7 4 _) (λ count.
@@ -181,11 +191,9 @@ module _ (p : Program) (l : Setup) (k input : ℕ) (here : getElem? (l .inputs) 
   pub sim-start : (others : ℕ → ℕ) → Sim (Related (p .image) (l .inputs) k) (Lane.start p l) (Scalar.start p input others)
   unfolding Lane.start Scalar.start Lane.begin lanes
   sim-start others =
-      bind-same (sim-require 1 _) (λ _.
-      bind-same (sim-require 2 _) (λ _.
-      bind-lane (require 13 _) (λ _. agrees (related
+      bind-same (sim-startTests _ _ _) (λ _. agrees (related
       (regs-fill _ 0 _ _ (at-start _ _ _ _ _ _ _ _ _ _ (whole 0) (whole stop) (whole stackPointer) (at-domain (p .image) (l .inputs) k input here) (λ j. at-unknown _ k _)))
-      (mem-write (p .image) (l .inputs) k input here 4 [] _ (mem-initial (p .image) (l .inputs) k input here) stop _ _ (whole stopWord))))))
+      (mem-write (p .image) (l .inputs) k input here 4 [] _ (mem-initial (p .image) (l .inputs) k input here) stop _ _ (whole stopWord))))
     where
       whole : (v : ℕ) → At (length (l .inputs)) k (constant (length (l .inputs)) v) v
       whole v = at-constant (p .image) (l .inputs) k input here v

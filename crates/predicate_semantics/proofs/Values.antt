@@ -1,6 +1,6 @@
 -- What lane k of a lane word, of the registers and of memory says of one scalar run.
 use mathlib.Core.Path.{_≡_, refl, sym, _∙_, ap, subst}
-use mathlib.Core.Bool.{Bool, true, false, false≢true}
+use mathlib.Core.Bool.{Bool, true, false, false≢true, cond}
 use mathlib.Core.Option.{some}
 use mathlib.Core.List.{List, [], _∷_}
 use Prim.Native.Nat.{ℕ, zero, suc, _/_, _%_}
@@ -9,15 +9,16 @@ use lib.ListN.{getElem?, getD, length, set, length-map, length-replicate}
 use borrow.Author.Tests.{eqb-true, eqb-false}
 use Rattle.riscv32imc.specs.Bits.{join}
 use Rattle.lane_word.specs.declared.LaneWord.{LaneWord}
-use Rattle.lane_word.specs.Word.{unknown, constant, domain, unary, binary, every}
+use Rattle.lane_word.specs.declared.Uniform.the-variants.{Value, Unknown, Uneven}
+use Rattle.lane_word.specs.Word.{unknown, constant, domain, unary, binary, every, uniformOf}
 use Rattle.lane_word.proofs.Tab.{length-zip}
 use Rattle.predicate_semantics.specs.Choice.{choose}
 use Rattle.predicate_semantics.specs.Program.{initial}
 use Rattle.predicate_semantics.specs.State.{assign, fill, atStart}
 use Rattle.predicate_semantics.specs.Memory.{Written, byteAt, laneBytes}
 use Rattle.predicate_semantics.specs.Memory as Memory
-use Rattle.predicate_semantics.specs.Refusal.{passed, refuse}
-use Rattle.predicate_semantics.specs.Lane.{agreed}
+use Rattle.predicate_semantics.specs.Refusal.{refuse}
+use Rattle.predicate_semantics.specs.Lane.{agreedAs, agreed}
 use Rattle.predicate_semantics.specs.Scalar.{Bytes}
 use Rattle.predicate_semantics.specs.Scalar as Scalar
 use Rattle.predicate_semantics.proofs.Lists.{map-at, zip-at, replicate-at, both-left, both-right, every-at}
@@ -55,12 +56,12 @@ at-choose false f g u v x y = y
 
 -- a word that passes the test has lane k's value
 pub sim-agreed : {n k : ℕ} (role : ℕ) {w : LaneWord} {v : ℕ} → At n k w v → Sim _≡_ (agreed role w) (some v)
-unfolding agreed choose refuse
+unfolding agreed uniformOf refuse
 sim-agreed {k = k} role {w} {v} h =
     go (w .known) (every (getD (w .values) 0 0) (w .values)) (h .value) (λ t e. every-at (getD (w .values) 0 0) (w .values) k t e)
   where
     go : (b c : Bool) → (T b → getElem? (w .values) k ≡ some v) → (T c → getElem? (w .values) k ≡ some v → getD (w .values) 0 0 ≡ v)
-        → Sim _≡_ (choose b (λ _. choose c (λ _. passed (getD (w .values) 0 0)) (λ _. refuse 7 role)) (λ _. refuse 6 role)) (some v)
+        → Sim _≡_ (agreedAs role (cond b (cond c (Value (getD (w .values) 0 0)) Uneven) Unknown)) (some v)
     go true true x y = agrees (y tt (x tt))
     go true false x y = stops
     go false c x y = stops

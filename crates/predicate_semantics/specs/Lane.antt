@@ -9,12 +9,15 @@ use Rattle.riscv32imc.specs.Arithmetic.{add, target}
 use Rattle.riscv32imc.specs.Constants.{imageBase}
 use Rattle.riscv_decode.specs.declared.Fetched.{Fetched}
 use Rattle.lane_word.specs.declared.LaneWord.{LaneWord}
-use Rattle.lane_word.specs.Word.{unknown, constant, domain, unary, binary, every}
+use Rattle.lane_word.specs.declared.Uniform.{Uniform}
+use Rattle.lane_word.specs.declared.Uniform.the-variants.{Value, Unknown, Uneven}
+use Rattle.lane_word.specs.Word.{unknown, constant, domain, unary, binary, uniformOf}
 use Rattle.predicate_semantics.specs.declared.CompiledMmioEvent.{CompiledMmioEvent}
 use Rattle.predicate_semantics.specs.declared.PredicateTransducerExecution.{PredicateTransducerExecution}
+use Rattle.predicate_semantics.specs.declared.Rv32SymbolLayout.{Rv32SymbolLayout}
 use Rattle.predicate_semantics.specs.Choice.{choose}
 use Rattle.predicate_semantics.specs.Meaning.{Operand, register, immediate, Meaning, nothing, literal, compute, jump, jumpTo, branch, load, store, meaning}
-use Rattle.predicate_semantics.specs.Program.{Core, Program, memoryEnd, stop, stopWord, stackPointer, maxEvents, imageEnd, sized, placed}
+use Rattle.predicate_semantics.specs.Program.{Core, Program, memoryEnd, stop, stopWord, stackPointer, maxEvents, eventBytes, imageEnd, sized, placed}
 use Rattle.predicate_semantics.specs.State.{State, Result, Effect, goes, sets, stores, Looked, fill, atStart, apply}
 use Rattle.predicate_semantics.specs.Memory.{Written, LaneBytes, laneBytes, read, write}
 use Rattle.predicate_semantics.specs.Refusal.{Tested, passed, refused, _>>=_, ifPassed, refuse, require, found}
@@ -34,12 +37,15 @@ pub record Ended : Type 0 where
   pub state : LaneState
   pub answer : Tested Result
 
--- every uniform test of the run, unknown first (6), then unequal (7): the value that all its lanes agree on
+-- what a uniform test in a role answers: the value that all lanes share, 6 where it is not known, 7 where they differ
+abbrev pub agreedAs : ℕ → Uniform → Tested ℕ
+agreedAs role (Value v) = passed v
+agreedAs role Unknown = refuse 6 role
+agreedAs role Uneven = refuse 7 role
+
+-- .. of a word
 unfoldable pub agreed : ℕ → LaneWord → Tested ℕ
-agreed role w =
-    choose (w .known)
-    (λ _. choose (every (getD (w .values) 0 0) (w .values)) (λ _. passed (getD (w .values) 0 0)) (λ _. refuse 7 role))
-    (λ _. refuse 6 role)
+agreed role w = agreedAs role (uniformOf w)
 
 -- range: an address below memory is 4, an access past its end is 5
 unfoldable pub inside : ℕ → ℕ → Tested (Unit {0})
@@ -47,10 +53,37 @@ inside a n = do
   _ ← require 4 (leb imageBase a)
   require 5 (leb (a + n) memoryEnd)
 
+-- before any step, of an image of so many bytes: 1, 2, and 13 where under four rows are lent
+unfoldable pub startTests : ℕ → Rv32SymbolLayout → ℕ → Tested (Unit {0})
+startTests size symbols rows = do
+  _ ← require 1 (sized size)
+  _ ← require 2 (placed symbols)
+  require 13 (leb 4 rows)
+
+-- a store at a known address: range, 11 below the image's end, 13 where the bytes then written are more than the rows
+unfoldable pub roomFor : ℕ → ℕ → ℕ → ℕ → ℕ → Tested (Unit {0})
+roomFor end rows address n written = do
+  _ ← inside address n
+  _ ← require 11 (leb end address)
+  require 13 (leb written rows)
+
 -- go on from a step that passed; a refused step is not completed
 unfoldable pub on : LaneState → Tested LaneState → (LaneState → Ended) → Ended
 on s (passed t) f = f t
 on s (refused r) f = record { state = s; answer = refused r }
+
+module _ (core : Core) (steps : ℕ) where
+  -- a word of so many bytes, as its operation; else 9
+  unfoldable pub decodeWord : ℕ → ℕ → Tested Fetched
+  decodeWord word n = do
+    operation ← found 9 (core .decode steps word)
+    passed (record { operation = operation; length = n; word = word })
+
+  -- a halfword, as the word that it expands to; else 8
+  unfoldable pub expandHalfword : ℕ → Tested Fetched
+  expandHalfword half = do
+    word ← found 8 (core .expand half)
+    decodeWord word 2
 
 module _ (inputs : List ℕ) where
   -- a load: range, then the bytes, written ones too
@@ -65,25 +98,26 @@ module _ (inputs : List ℕ) where
     w ← access memory n a
     agreed role w
 
-  module _ (core : Core) where
-    -- "fetch 2 bytes (range, then uniform); expansion, or fetch of 4": the word and its length
-    unfoldable pub fetchWord : LaneBytes → ℕ → Tested (ℕ × ℕ)
-    fetchWord memory pc = do
-      half ← accessAgreed 1 memory 2 pc
-      choose (eqb (half % 4) 3)
-          (λ _. do
-            word ← accessAgreed 1 memory 4 pc
-            passed (word, 4))
-          (λ _. do
-            word ← found 8 (core .expand half)
-            passed (word, 2))
+  module _ (core : Core) (memory : LaneBytes) (steps pc : ℕ) where
+    -- an instruction of four bytes
+    unfoldable pub fetchFour : Tested Fetched
+    fetchFour = do
+      word ← accessAgreed 1 memory 4 pc
+      decodeWord core steps word 4
 
-    -- "word": its operation, after some number of completed steps
-    unfoldable pub fetch : LaneBytes → ℕ → ℕ → Tested Fetched
-    fetch memory steps pc = do
-      w ← fetchWord memory pc
-      operation ← found 9 (core .decode steps (w .0))
-      passed (record { operation = operation; length = w .1; word = w .0 })
+    -- the next instruction after so many completed steps: its low halfword says whether it is longer
+    unfoldable pub fetch : Tested Fetched
+    fetch = do
+      half ← accessAgreed 1 memory 2 pc
+      choose (eqb (half % 4) 3) (λ _. fetchFour) (λ _. expandHalfword core steps half)
+
+  -- an event's three words from an address on, with its location
+  unfoldable pub eventAt : LaneBytes → ℕ → ℕ → Tested CompiledMmioEvent
+  eventAt memory a location = do
+    operation ← accessAgreed 8 memory 4 a
+    offset ← accessAgreed 9 memory 4 (a + 4)
+    value ← accessAgreed 10 memory 4 (a + 8)
+    passed (record { operation = operation; offset = offset; value = value; location = location })
 
 module _ (p : Program) (l : Setup) where
   -- one lane for each input
@@ -122,9 +156,7 @@ module _ (p : Program) (l : Setup) where
     passed (sets rd (unary extend w) next)
   execute s next (store a b offset n) = do
     address ← agreed 4 (unary (λ v. add v offset) (reg s a))
-    _ ← inside address n
-    _ ← require 11 (leb (imageEnd p) address)
-    _ ← require 13 (leb (length (write (s .memory) n address (reg s b))) (l .rows))
+    _ ← roomFor (imageEnd p) (l .rows) address n (length (write (s .memory) n address (reg s b)))
     passed (stores address n (reg s b) next)
 
   -- what the next step would do: its tests up to the trace space
@@ -141,24 +173,26 @@ module _ (p : Program) (l : Setup) where
     _ ← require 14 (ltb (s .steps) (l .entries))
     passed (apply write (p .symbols .«event_count») s (seen .fetched) (seen .effect))
 
-  -- the events from index i on, after those done: "each event's operation, offset, value at events + 12 times its index"
+  -- the events from index i on, after those done
   unfoldable pub events : LaneBytes → ℕ → List CompiledMmioEvent → List ℕ → Tested (List CompiledMmioEvent)
   events memory i done [] = passed done
   events memory i done (location ∷ locations) = do
-    operation ← accessAgreed (l .inputs) 8 memory 4 (p .symbols .events + 12 * i)
-    offset ← accessAgreed (l .inputs) 9 memory 4 (p .symbols .events + 12 * i + 4)
-    value ← accessAgreed (l .inputs) 10 memory 4 (p .symbols .events + 12 * i + 8)
-    events memory (suc i)
-        (done ++ record { operation = operation; offset = offset; value = value; location = location } ∷ []) locations
+    e ← eventAt (l .inputs) memory (p .symbols .events + eventBytes * i) location
+    events memory (suc i) (done ++ e ∷ []) locations
 
-  -- "At stop: return value (x10), event count, refusal 12, then each event's operation, offset, value"
+  -- at stop, with a return value and an event count: 12, then the events
+  unfoldable pub finishEvents : LaneState → ℕ → ℕ → Tested Result
+  finishEvents s returnValue count = do
+    _ ← require 12 (leb count maxEvents && eqb count (length (s .locations)))
+    es ← events (memoryOf s) 0 [] (s .locations)
+    passed (record { returnValue = returnValue; steps = s .steps; trace = s .trace; events = es })
+
+  -- at stop: the return value is x10
   unfoldable pub finish : LaneState → Tested Result
   finish s = do
     returnValue ← agreed 6 (reg s 10)
     count ← accessAgreed (l .inputs) 7 (memoryOf s) 4 (p .symbols .«event_count»)
-    _ ← require 12 (leb count maxEvents && eqb count (length (s .locations)))
-    es ← events (memoryOf s) 0 [] (s .locations)
-    passed (record { returnValue = returnValue; steps = s .steps; trace = s .trace; events = es })
+    finishEvents s returnValue count
 
   -- at most so many steps, up to the first arrival at stop: the bound (3) is tested before a step
   unfoldable pub run : ℕ → LaneState → Ended
@@ -186,12 +220,10 @@ module _ (p : Program) (l : Setup) where
     locations = [];
   }
 
-  -- 1, 2, and 13 where under four rows are lent
+  -- the first state, once the tests before any step are passed
   unfoldable pub start : Tested LaneState
   start = do
-    _ ← require 1 (sized (p .image))
-    _ ← require 2 (placed (p .symbols))
-    _ ← require 13 (leb 4 (l .rows))
+    _ ← startTests (length (p .image)) (p .symbols) (l .rows)
     passed begin
 
   -- the run, with a limit of steps

@@ -41,6 +41,10 @@ stackPointer = 0x801FFFF0
 abbrev pub maxEvents : ℕ
 maxEvents = 32
 
+-- how far apart they lie: three words each
+abbrev pub eventBytes : ℕ
+eventBytes = 12
+
 -- the byte that memory starts with at an address: the image's, then zeros; 0 below memory too
 unfoldable pub initial : List ℕ → ℕ → ℕ
 initial image a = cond (ltb a imageBase) 0 (getD image (a - imageBase) 0)
@@ -49,9 +53,9 @@ initial image a = cond (ltb a imageBase) 0 (getD image (a - imageBase) 0)
 abbrev pub imageEnd : Program → ℕ
 imageEnd p = imageBase + length (p .image)
 
--- no refusal 1: the image is not empty, and not above 1,048,576 bytes
-unfoldable pub sized : List ℕ → Bool
-sized image = ltb 0 (length image) && leb (length image) maxImageBytes
+-- no refusal 1 of an image of so many bytes
+unfoldable pub sized : ℕ → Bool
+sized size = ltb 0 size && leb size maxImageBytes
 
 -- no refusal 2: each symbol lies in memory
 unfoldable pub inMemory : ℕ → Bool

@@ -10,9 +10,10 @@ use Rattle.riscv32imc.specs.Bits.{join}
 use Rattle.riscv32imc.specs.Constants.{imageBase}
 use Rattle.riscv_decode.specs.declared.Fetched.{Fetched}
 use Rattle.predicate_semantics.specs.declared.CompiledMmioEvent.{CompiledMmioEvent}
+use Rattle.predicate_semantics.specs.declared.Rv32SymbolLayout.{Rv32SymbolLayout}
 use Rattle.predicate_semantics.specs.Choice.{choose}
 use Rattle.predicate_semantics.specs.Meaning.{Operand, register, immediate, Meaning, nothing, literal, compute, jump, jumpTo, branch, load, store, meaning}
-use Rattle.predicate_semantics.specs.Program.{Program, memoryEnd, stop, stopWord, stackPointer, maxEvents, initial, imageEnd, sized, placed}
+use Rattle.predicate_semantics.specs.Program.{Program, memoryEnd, stop, stopWord, stackPointer, maxEvents, eventBytes, initial, imageEnd, sized, placed}
 use Rattle.predicate_semantics.specs.State.{State, Result, Effect, goes, sets, stores, Looked, fill, atStart, apply}
 
 -- a byte for each address
@@ -54,11 +55,31 @@ inside a n = do
   _ ← require (leb imageBase a)
   require (leb (a + n) memoryEnd)
 
+-- before any step; else 1, 2
+unfoldable pub startTests : ℕ → Rv32SymbolLayout → Option (Unit {0})
+startTests size symbols = do
+  _ ← require (sized size)
+  require (placed symbols)
+
+-- a store at an address: range, not below the image's end; else 11
+unfoldable pub roomFor : ℕ → ℕ → ℕ → Option (Unit {0})
+roomFor end address n = do
+  _ ← inside address n
+  require (leb end address)
+
 -- a load: range, then the bytes
 unfoldable pub access : Bytes → ℕ → ℕ → Option ℕ
 access memory n a = do
   _ ← inside a n
   some (read memory n a)
+
+-- an event's three words from an address on, with its location
+unfoldable pub eventAt : Bytes → ℕ → ℕ → Option CompiledMmioEvent
+eventAt memory a location = do
+  operation ← access memory 4 a
+  offset ← access memory 4 (a + 4)
+  value ← access memory 4 (a + 8)
+  some (record { operation = operation; offset = offset; value = value; location = location })
 
 -- the value of a register
 unfoldable pub reg : ScalarState → ℕ → ℕ
@@ -70,24 +91,29 @@ operand s (register i) = reg s i
 operand s (immediate n) = n
 
 module _ (p : Program) where
-  -- "Low two bits 11 mean 4 bytes; otherwise 2, and the halfword is expanded to a word": the word and its length; else 8
-  unfoldable pub fetchWord : Bytes → ℕ → Option (ℕ × ℕ)
-  fetchWord memory pc = do
-    half ← access memory 2 pc
-    choose (eqb (half % 4) 3)
-        (λ _. do
-          word ← access memory 4 pc
-          some (word, 4))
-        (λ _. do
-          word ← p .core .expand half
-          some (word, 2))
+  -- a word of so many bytes, as its operation; else 9
+  unfoldable pub decodeWord : ScalarState → ℕ → ℕ → Option Fetched
+  decodeWord s word n = do
+    operation ← p .core .decode (s .steps) word
+    some (record { operation = operation; length = n; word = word })
 
-  -- "finds the word's row": its operation; else 9
+  -- a halfword, as the word that it expands to; else 8
+  unfoldable pub expandHalfword : ScalarState → ℕ → Option Fetched
+  expandHalfword s half = do
+    word ← p .core .expand half
+    decodeWord s word 2
+
+  -- an instruction of four bytes
+  unfoldable pub fetchFour : ScalarState → Option Fetched
+  fetchFour s = do
+    word ← access (s .memory) 4 (s .pc)
+    decodeWord s word 4
+
+  -- the next instruction: its low halfword says whether it is longer
   unfoldable pub fetch : ScalarState → Option Fetched
   fetch s = do
-    w ← fetchWord (s .memory) (s .pc)
-    operation ← p .core .decode (s .steps) (w .0)
-    some (record { operation = operation; length = w .1; word = w .0 })
+    half ← access (s .memory) 2 (s .pc)
+    choose (eqb (half % 4) 3) (λ _. fetchFour s) (λ _. expandHalfword s half)
 
   -- "does the operation on its own values"; next is the following instruction's address; else 4, 5, 10, 11
   unfoldable pub execute : ScalarState → ℕ → Meaning → Option (Effect ℕ)
@@ -104,8 +130,7 @@ module _ (p : Program) where
     v ← access (s .memory) n (add (reg s a) offset)
     some (sets rd (extend v) next)
   execute s next (store a b offset n) = do
-    _ ← inside (add (reg s a) offset) n
-    _ ← require (leb (imageEnd p) (add (reg s a) offset))
+    _ ← roomFor (imageEnd p) (add (reg s a) offset) n
     some (stores (add (reg s a) offset) n (reg s b) next)
 
   -- what the next step would do
@@ -121,15 +146,12 @@ module _ (p : Program) where
     seen ← look s
     some (apply write (p .symbols .«event_count») s (seen .fetched) (seen .effect))
 
-  -- the events from index i on, after those done: for each location left, three words at events + 12 times the index
+  -- the events from index i on, after those done, one for each location left
   unfoldable pub events : Bytes → ℕ → List CompiledMmioEvent → List ℕ → Option (List CompiledMmioEvent)
   events memory i done [] = some done
   events memory i done (location ∷ locations) = do
-    operation ← access memory 4 (p .symbols .events + 12 * i)
-    offset ← access memory 4 (p .symbols .events + 12 * i + 4)
-    value ← access memory 4 (p .symbols .events + 12 * i + 8)
-    events memory (suc i)
-        (done ++ record { operation = operation; offset = offset; value = value; location = location } ∷ []) locations
+    e ← eventAt memory (p .symbols .events + eventBytes * i) location
+    events memory (suc i) (done ++ e ∷ []) locations
 
   -- "On first reaching stop it ends, and answers x10, the steps, the trace, and as many events as the word at the event count's address says"; else 12
   unfoldable pub finish : ScalarState → Option Result
@@ -152,8 +174,7 @@ module _ (p : Program) where
   -- "It starts at the entry, memory and x0, x1, x2, x10 as above, steps 0, both lists empty"; else 1, 2
   unfoldable pub start : ℕ → (ℕ → ℕ) → Option ScalarState
   start input others = do
-    _ ← require (sized (p .image))
-    _ ← require (placed (p .symbols))
+    _ ← startTests (length (p .image)) (p .symbols)
     some (record {
       pc = p .symbols .entry;
       registers = fill (p .core .registers) 0 (atStart 0 stop stackPointer input others);
