@@ -14,12 +14,13 @@ use Rattle.little_endian.proofs.NumberLaws.{value-below, below-drop, below-take
 use Rattle.riscv32imc.specs.Bits.{join}
 use Rattle.riscv32imc.specs.Constants.{imageBase}
 use Rattle.lane_word.specs.declared.LaneWord.{LaneWord}
-use Rattle.lane_word.specs.declared.Uniform.{Uniform}
-use Rattle.lane_word.specs.declared.Uniform.the-variants.{Value, Unknown, Uneven}
+use Rattle.lane_word.specs.declared.Uniform.the-variants as uniform
+use Rattle.lane_word.specs.declared.Told.{Told}
+use Rattle.lane_word.specs.declared.Told.the-variants.{Value, Lanes}
 use Rattle.lane_word.specs.Word.{unknown, constant, binary, zip, every, inputs, uniformOf, firstInput, lanes}
-use Rattle.lane_word.specs.Told.{toldBy, isValue, Tells}
+use Rattle.lane_word.specs.Told.{wordOf, toldBy}
 use Rattle.lane_word.proofs.Tab.{length-inputs}
-use Rattle.lane_word.proofs.Told.{binary-constants, uniform-constant}
+use Rattle.lane_word.proofs.ToldLaws.{binary-constants, uniform-constant}
 use Rattle.predicate_semantics.specs.Choice.{choose}
 use Rattle.predicate_semantics.specs.Program.{memoryEnd, initial}
 use Rattle.predicate_semantics.specs.Memory.{LaneBytes, read}
@@ -36,7 +37,7 @@ use Rattle.lane_access.specs.Answers.{refusalOf, testedAs, accessedOf, a
 
 tested : (role v : ℕ) (b c : Bool)
     → choose b (λ _. choose c (λ _. passed v) (λ _. refuse 7 role)) (λ _. refuse 6 role)
-    ≡ testedAs role (cond b (cond c (Value v) Uneven) Unknown)
+    ≡ testedAs role (cond b (cond c (uniform.Value v) uniform.Uneven) uniform.Unknown)
 unfolding choose
 tested role v true true = refl
 tested role v true false = refl
@@ -89,75 +90,64 @@ pub read-more : (memory : LaneBytes) (k x : ℕ) → read lanes memory (suc k) x
 unfolding read
 read-more memory k x = refl
 
-pub told-more : (told : ℕ → Uniform) (k x : ℕ) → toldRead told (suc k) x ≡ toldBy join (told x) (toldRead told k (suc x))
+pub told-more : (told : ℕ → Told) (k x : ℕ) → toldRead told (suc k) x ≡ toldBy join (told x) (toldRead told k (suc x))
 unfolding toldRead
 told-more told k x = refl
 
 -- ---- what one value tells
 
-tells-byte : (rows : List ℕ) (a other : ℕ) → Tells (toldByte rows a other) (loadByte rows a other)
-tells-byte rows a other = go (toldByte rows a other) refl
-  where
-    go : (u : Uniform) → toldByte rows a other ≡ u → Tells u (loadByte rows a other)
-    go (Value v) e = told-byte rows a other e
-    go Unknown e = tt
-    go Uneven e = tt
+-- a told value is the word's in every lane: putting it in the word's place changes nothing
+told-same : (u : Told) (w : LaneWord) → ((v : ℕ) → u ≡ Value v → w ≡ constant lanes v) → wordOf u w ≡ w
+told-same (Value v) w h = sym (h v refl)
+told-same Lanes w h = refl
 
-tells-seen : (image rows : List ℕ) (a : ℕ) → Tells (toldSeen image rows a) (seen image rows a)
+seen-told : (image rows : List ℕ) (a : ℕ) → wordOf (toldSeen image rows a) (seen image rows a) ≡ seen image rows a
 unfolding toldSeen seen
-tells-seen image rows a = go (ltb (offsetOf a) (length image))
+seen-told image rows a = go (ltb (offsetOf a) (length image))
   where
-    go : (b : Bool) → Tells (cond b (Value (initial image a)) (toldByte rows a 0)) (cond b (constant lanes (initial image a)) (loadByte rows a 0))
+    go : (b : Bool)
+        → wordOf (cond b (Value (initial image a)) (toldByte rows a 0)) (cond b (constant lanes (initial image a)) (loadByte rows a 0))
+        ≡ cond b (constant lanes (initial image a)) (loadByte rows a 0)
     go true = refl
-    go false = tells-byte rows a 0
+    go false = told-same (toldByte rows a 0) (loadByte rows a 0) (λ v e. told-byte rows a 0 e)
 
-tells-by : (f : ℕ → ℕ → ℕ) (u v : Uniform) (x y : LaneWord) → Tells u x → Tells v y → Tells (toldBy f u v) (binary f x y)
-tells-by f (Value a) (Value b) x y p q = rw (p, q) (binary-constants f lanes a b)
-tells-by f (Value a) Unknown x y p q = tt
-tells-by f (Value a) Uneven x y p q = tt
-tells-by f Unknown v x y p q = tt
-tells-by f Uneven v x y p q = tt
+by-told : (f : ℕ → ℕ → ℕ) (u v : Told) (x y : LaneWord) → wordOf u x ≡ x → wordOf v y ≡ y → wordOf (toldBy f u v) (binary f x y) ≡ binary f x y
+by-told f (Value a) (Value b) x y p q = rw (← p, ← q, binary-constants f lanes a b)
+by-told f (Value a) Lanes x y p q = refl
+by-told f Lanes v x y p q = refl
 
 -- what is told of a number is its word
-tells-read : (image rows : List ℕ) (n a : ℕ) → Tells (toldRead (toldSeen image rows) n a) (read lanes (seen image rows) n a)
+read-told : (image rows : List ℕ) (n a : ℕ) → wordOf (toldRead (toldSeen image rows) n a) (read lanes (seen image rows) n a) ≡ read lanes (seen image rows) n a
 unfolding toldRead read
-tells-read image rows zero a = refl
-tells-read image rows (suc n) a =
-    tells-by join (toldSeen image rows a) (toldRead (toldSeen image rows) n (suc a)) (seen image rows a) (read lanes (seen image rows) n (suc a))
-    (tells-seen image rows a) (tells-read image rows n (suc a))
+read-told image rows zero a = refl
+read-told image rows (suc n) a =
+    by-told join (toldSeen image rows a) (toldRead (toldSeen image rows) n (suc a)) (seen image rows a) (read lanes (seen image rows) n (suc a))
+    (seen-told image rows a) (read-told image rows n (suc a))
 
--- a number is told, or left to its lanes
-left-to-lanes : (f : ℕ → ℕ → ℕ) (u v : Uniform) → isValue (toldBy f u v) ≡ false → toldBy f u v ≡ Uneven
-left-to-lanes f (Value a) (Value b) e = absurd (true≢false e)
-left-to-lanes f (Value a) Unknown e = refl
-left-to-lanes f (Value a) Uneven e = refl
-left-to-lanes f Unknown v e = refl
-left-to-lanes f Uneven v e = refl
+-- bytes that are not told leave the whole number to its lanes
+lanes-above : (f : ℕ → ℕ → ℕ) (u : Told) → toldBy f u Lanes ≡ Lanes
+lanes-above f (Value a) = refl
+lanes-above f Lanes = refl
 
-pub told-uneven : (told : ℕ → Uniform) (n a : ℕ) → isValue (toldRead told n a) ≡ false → toldRead told n a ≡ Uneven
-unfolding toldRead
-told-uneven told zero a e = absurd (true≢false e)
-told-uneven told (suc n) a e = left-to-lanes join (told a) (toldRead told n (suc a)) e
+module _ (told : ℕ → Told) (n a : ℕ) where
+  -- one byte more, below those that are joined
+  told-below : (left : ℕ) → left ≤ n → 0 < left → rest (toldRead told) n a (left - 1) ≡ toldBy join (told (a + (left - 1))) (rest (toldRead told) n a left)
+  told-below left h k = rest-more (toldRead told) n a (λ x. toldBy join (told x)) (told-more told) left h k
 
--- bytes above that are not told leave the whole number to its lanes
-untold-above : (f : ℕ → ℕ → ℕ) (u v : Uniform) → isValue v ≡ false → isValue (toldBy f u v) ≡ false
-untold-above f (Value a) (Value b) e = absurd (true≢false e)
-untold-above f (Value a) Unknown e = refl
-untold-above f (Value a) Uneven e = refl
-untold-above f Unknown v e = refl
-untold-above f Uneven v e = refl
+  pub told-step : {left byte number : ℕ} → left ≤ n → 0 < left → Value byte ≡ told (a + (left - 1)) → Value number ≡ rest (toldRead told) n a left
+      → Value (join byte number) ≡ rest (toldRead told) n a (left - 1)
+  told-step {left} h k e f = sym (told-below left h k ∙ ap₂ (toldBy join) (sym e) (sym f))
 
-module _ (told : ℕ → Uniform) (n a : ℕ) where
-  pub told-step : (left : ℕ) → left ≤ n → 0 < left → {u v w : Uniform} → u ≡ told (a + (left - 1)) → v ≡ rest (toldRead told) n a left → w ≡ toldBy join u v
-      → w ≡ rest (toldRead told) n a (left - 1)
-  told-step left h k e f g = g ∙ ap₂ (toldBy join) e f ∙ sym (rest-more (toldRead told) n a (λ x. toldBy join (told x)) (told-more told) left h k)
-
-  pub told-above : (left : ℕ) → left ≤ n → isValue (rest (toldRead told) n a left) ≡ false → toldRead told n a ≡ Uneven
-  told-above zero h e = told-uneven told n a (rw (rest-all (toldRead told) n a 0 (omega arith)) at e)
+  told-above : (left : ℕ) → left ≤ n → rest (toldRead told) n a left ≡ Lanes → toldRead told n a ≡ Lanes
+  told-above zero h e = sym (rest-all (toldRead told) n a 0 (omega arith)) ∙ e
   told-above (suc left) h e =
       let z : suc left - 1 ≡ left = omega arith in
       told-above left (omega arith)
-      (rw (← z, ← told-step (suc left) h (omega arith) refl refl refl) (untold-above join (told (a + (suc left - 1))) (rest (toldRead told) n a (suc left)) e))
+      (rw z at (told-below (suc left) h (omega arith)) ∙ ap (toldBy join (told (a + left))) e ∙ lanes-above join (told (a + left)))
+
+  pub told-ends : {left : ℕ} → left ≤ n → 0 < left → Lanes ≡ told (a + (left - 1)) → Lanes ≡ toldRead told n a
+  told-ends {left} h k e =
+      sym (told-above (left - 1) (omega arith) (told-below left h k ∙ ap (λ (u : Told). toldBy join u (rest (toldRead told) n a left)) (sym e)))
 
 -- joining stays within a word where the number has at most four bytes
 small : (n : ℕ) → n ≤ 3 → 256 ^ n ≤ 16777216
@@ -256,7 +246,7 @@ loads image rows n a r e = go r (inside a n) refl e
   where
     go : (r : Loading) (t : Tested (Unit {0})) → inside a n ≡ t → loadingOf r ≡ (t >>= λ _. passed (toldRead (toldSeen image rows) n a)) → LoadsAs (seen image rows) n a r
     go (loading.Value v) (passed u) p e =
-        let q : toldRead (toldSeen image rows) n a ≡ Value v = cc in (p, rw q at (tells-read image rows n a))
+        let q : toldRead (toldSeen image rows) n a ≡ Value v = cc in (p, sym (ap (λ (u : Told). wordOf u (read lanes (seen image rows) n a)) (sym q) ∙ read-told image rows n a))
     go (loading.Value v) (refused x) p e = absurd (clash (cc))
     go loading.Lanes (passed u) p e = p
     go loading.Lanes (refused x) p e = absurd (clash (cc))

@@ -5,6 +5,8 @@ use Rattle.riscv_decode.specs.declared.Fetched.{Fetched}
 use Rattle.lane_word.specs.declared.LaneWord.{LaneWord}
 use Rattle.lane_word.specs.declared.Uniform.{Uniform}
 use Rattle.lane_word.specs.declared.Uniform.the-variants.{Value, Unknown, Uneven}
+use Rattle.lane_word.specs.declared.Told.{Told}
+use Rattle.lane_word.specs.declared.Told.the-variants as told
 use Rattle.lane_word.specs.Word.{unknown, inputs, firstInput, lanes}
 use Rattle.predicate_semantics.specs.Refusal.{Refusal, Tested, passed, refused, refuse, _>>=_, found}
 use Rattle.predicate_semantics.specs.Memory.{LaneBytes}
@@ -79,13 +81,13 @@ accessedAs (passed w) = (passed tt, w)
 accessedAs (refused r) = (refused r, unknown lanes)
 
 -- a load that one value tells, or one whose lanes have to be read
-abbrev pub loadingOf : Loading → Tested Uniform
-loadingOf (loading.Value v) = passed (Value v)
-loadingOf loading.Lanes = passed Uneven
+abbrev pub loadingOf : Loading → Tested Told
+loadingOf (loading.Value v) = passed (told.Value v)
+loadingOf loading.Lanes = passed told.Lanes
 loadingOf (loading.Refused e) = refused (refusalOf e)
 
 -- a load: range, then the value that tells its bytes where each of them is told
-unfoldable pub toldLoad : List ℕ → List ℕ → ℕ → ℕ → Tested Uniform
+unfoldable pub toldLoad : List ℕ → List ℕ → ℕ → ℕ → Tested Told
 toldLoad image rows n a = do
   _ ← inside a n
   passed (toldRead (toldSeen image rows) n a)

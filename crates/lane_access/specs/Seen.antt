@@ -8,8 +8,8 @@ use lib.ListN.{length, take, drop}
 use Rattle.little_endian.specs.Number.{value}
 use Rattle.riscv32imc.specs.Bits.{join}
 use Rattle.riscv32imc.specs.Constants.{imageBase}
-use Rattle.lane_word.specs.declared.Uniform.{Uniform}
-use Rattle.lane_word.specs.declared.Uniform.the-variants.{Value}
+use Rattle.lane_word.specs.declared.Told.{Told}
+use Rattle.lane_word.specs.declared.Told.the-variants.{Value}
 use Rattle.lane_word.specs.Word.{constant, lanes}
 use Rattle.lane_word.specs.Told.{toldBy}
 use Rattle.predicate_semantics.specs.Program.{initial}
@@ -27,11 +27,11 @@ unfoldable pub seen : List ℕ → List ℕ → LaneBytes
 seen image rows a = cond (ltb (offsetOf a) (length image)) (constant lanes (initial image a)) (loadByte rows a 0)
 
 -- what one value tells of the byte at an address: a byte of the image is told, a written one where its row's mark says so, and what was not written is 0
-unfoldable pub toldSeen : List ℕ → List ℕ → ℕ → Uniform
+unfoldable pub toldSeen : List ℕ → List ℕ → ℕ → Told
 toldSeen image rows a = cond (ltb (offsetOf a) (length image)) (Value (initial image a)) (toldByte rows a 0)
 
 -- the little-endian number in n bytes from an address where each of them is told; else only the lanes tell
-unfoldable pub toldRead : (ℕ → Uniform) → ℕ → ℕ → Uniform
+unfoldable pub toldRead : (ℕ → Told) → ℕ → ℕ → Told
 toldRead told zero a = Value 0
 toldRead told (suc n) a = toldBy join (told a) (toldRead told n (suc a))
 

@@ -1,6 +1,5 @@
 // Loads and fetches of the lane run: the image, then zeros, under the written bytes.
 ghost use mathlib.Core.Path.{_≡_};
-ghost use mathlib.Core.Bool.{_&&_};
 ghost use Prim.Native.Nat.{ℕ, _+_, _≤_, _^_};
 ghost use lib.Dec.{ltb};
 ghost use lib.ListN.{length};
@@ -14,11 +13,13 @@ ghost use Rattle.lane_memory.specs.Rows.{Joined};
 ghost use Rattle.lane_access.specs.Seen.{offsetOf, seen, toldSeen, toldRead, FromImage};
 ghost use Rattle.lane_access.specs.Answers.{roleOf, verdictOf, agreedOf, testedAs, accessedOf, accessedAs, loadingOf, toldLoad, fetchingOf, decodedAs, expandedAs, fourAs};
 use lane_word::LaneWord;
+use lane_word::Told;
 use lane_word::Uniform;
 use riscv_decode::Decoded;
 use riscv_decode::Fetched;
 use riscv32imc::Expanded;
 use riscv32imc::arithmetic::Binary;
+use riscv32imc::arithmetic::value;
 
 // The address past memory's end.
 pub const RV32_MEMORY_END: u32 = 0x8020_0000;
@@ -143,12 +144,6 @@ fn image_byte(image: &[u8], address: u32) -> u32
     little_endian::get_u8(image, offset_of(address)) as u32
 }
 
-fn both(a: bool, b: bool) -> bool
-    ensures { λ r. ⌜ r ≡ (a && b) ⌝ }
-{
-    a && b
-}
-
 // The byte at an address below the values above it, in their place; whether the byte is known.
 fn join_at(image: &[u8], rows: &[u8], address: u32, values: &mut [u32]) -> bool
     ensures { λ r. ⌜ Joined (seen (now (image .entry)) (now (rows .entry)) address) (now (values .entry)) r (now (values .exit)) ⌝ }
@@ -170,36 +165,37 @@ fn join_bytes(image: &[u8], rows: &[u8], address: u32, width: u32) -> LaneWord
     let mut left = width;
     while 0 < left {
         left -= 1;
-        known = both(join_at(image, rows, address + left, &mut values), known);
+        known = lane_word::both(join_at(image, rows, address + left, &mut values), known);
     }
     LaneWord { values, known }
 }
 
 // What one value tells of the byte at an address.
-fn told_at(image: &[u8], rows: &[u8], address: u32) -> Uniform
+fn told_at(image: &[u8], rows: &[u8], address: u32) -> Told
     ensures { λ r. ⌜ r ≡ toldSeen (now (image .entry)) (now (rows .entry)) address ⌝ }
 {
     if in_image(image, address) {
-        return Uniform::Value(image_byte(image, address));
+        return Told::Value(image_byte(image, address));
     }
     lane_memory::told_byte(rows, address, 0)
 }
 
 // What the bytes' values tell, joined as the bytes are; one byte without a value leaves the number to its lanes.
-fn told_join(image: &[u8], rows: &[u8], address: u32, width: u32) -> Uniform
+fn told_join(image: &[u8], rows: &[u8], address: u32, width: u32) -> Told
     requires { ⌜ address + width ≤ 2 ^ 32 ⌝ }
     ensures { λ r. ⌜ r ≡ toldRead (toldSeen (now (image .entry)) (now (rows .entry))) width address ⌝ }
 {
-    let mut told = Uniform::Value(0);
+    let mut number: u32 = 0;
     let mut left = width;
     while 0 < left {
         left -= 1;
-        told = lane_word::told_by(Binary::Join, told_at(image, rows, address + left), told);
-        if !lane_word::is_value(told) {
-            return Uniform::Uneven;
+        let told = told_at(image, rows, address + left);
+        match told {
+            Told::Value(byte) => number = value(Binary::Join, byte, number),
+            Told::Lanes => return Told::Lanes,
         }
     }
-    told
+    Told::Value(number)
 }
 
 // A number that the image holds whole; without it the bytes are joined.
@@ -226,13 +222,13 @@ fn image_number(image: &[u8], address: u32, width: u32) -> ImageNumber
 }
 
 // What one value tells of the bytes from an address on.
-fn told_bytes(image: &[u8], rows: &[u8], address: u32, width: u32) -> Uniform
+fn told_bytes(image: &[u8], rows: &[u8], address: u32, width: u32) -> Told
     requires { ⌜ (imageBase ≤ address) × (address + width ≤ 2 ^ 32) ⌝ }
     ensures { λ r. ⌜ r ≡ toldRead (toldSeen (now (image .entry)) (now (rows .entry))) width address ⌝ }
 {
     let number = image_number(image, address, width);
     match number {
-        ImageNumber::Number(value) => Uniform::Value(value),
+        ImageNumber::Number(value) => Told::Value(value),
         ImageNumber::Elsewhere => told_join(image, rows, address, width),
     }
 }
@@ -247,9 +243,8 @@ pub fn load(image: &[u8], rows: &[u8], address: u32, width: u32) -> Loading
     }
     let told = told_bytes(image, rows, address, width);
     match told {
-        Uniform::Value(value) => Loading::Value(value),
-        Uniform::Unknown => Loading::Lanes,
-        Uniform::Uneven => Loading::Lanes,
+        Told::Value(value) => Loading::Value(value),
+        Told::Lanes => Loading::Lanes,
     }
 }
 

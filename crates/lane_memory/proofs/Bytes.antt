@@ -8,7 +8,7 @@ use lib.ListN.{length, length-map}
 use lib.Pow.{pow-add}
 use Rattle.lane_word.specs.declared.LaneWord.{LaneWord}
 use Rattle.lane_word.specs.Word.{lanes, constant, unary}
-use Rattle.lane_word.proofs.Told.{unary-constant}
+use Rattle.lane_word.proofs.ToldLaws.{unary-constant}
 use Rattle.lane_memory.specs.Rows.{byteValue, byteOf}
 
 -- a word of 32 bits has four bytes

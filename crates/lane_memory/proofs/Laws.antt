@@ -16,7 +16,7 @@ use Rattle.little_endian.specs.Number.{value, AllBytes}
 use Rattle.little_endian.proofs.NumberLaws.{below-take, below-drop}
 use Rattle.riscv32imc.specs.Bits.{join}
 use Rattle.lane_word.specs.declared.LaneWord.{LaneWord}
-use Rattle.lane_word.specs.declared.Uniform.the-variants.{Value, Uneven}
+use Rattle.lane_word.specs.declared.Told.the-variants.{Value, Lanes}
 use Rattle.lane_word.specs.Word.{lanes, constant, binary, zip}
 use Rattle.predicate_semantics.specs.Memory.{Written, byteAt, put, write}
 use Rattle.lane_memory.specs.Rows.{rowCount, rowAt, laneByte, rowByte, held, findRow, findIn, byteValue, byteOf, laneRow, valueRow, writeRow, storeAt, storeRow, storeByte, storeRows, storeBytes, storeValues, loadAt, loadByte, joined, Joined, toldAt, toldByte, newAt, newBytes, unmarkRows, unmarked, cleared}
@@ -124,7 +124,7 @@ pub told-byte : (l : List ℕ) (a other : ℕ) {v : ℕ} → toldByte l a other 
 unfolding toldByte loadByte
 told-byte l a other {v} = go (findRow l a)
   where
-    row : (t : Bool) (b : LaneWord) (x : ℕ) → cond t Uneven (Value x) ≡ Value v → cond t b (constant lanes x) ≡ constant lanes v
+    row : (t : Bool) (b : LaneWord) (x : ℕ) → cond t Lanes (Value x) ≡ Value v → cond t b (constant lanes x) ≡ constant lanes v
     row true b x e = absurd (clash (cc))
     row false b x e = let z : x ≡ v = cc in rw z
 

@@ -10,8 +10,8 @@ use lib.Seq.{sets}
 use Rattle.little_endian.specs.Number.{value, bytes}
 use Rattle.riscv32imc.specs.Bits as Bits
 use Rattle.lane_word.specs.declared.LaneWord.{LaneWord}
-use Rattle.lane_word.specs.declared.Uniform.{Uniform}
-use Rattle.lane_word.specs.declared.Uniform.the-variants.{Value, Uneven}
+use Rattle.lane_word.specs.declared.Told.{Told}
+use Rattle.lane_word.specs.declared.Told.the-variants.{Value, Lanes}
 use Rattle.lane_word.specs.Word.{lanes, constant, unary, zip}
 use Rattle.predicate_semantics.specs.Memory.{Written}
 use Rattle.lane_memory.specs.declared.Probe.{Probe}
@@ -164,15 +164,15 @@ abbrev pub Joined : LaneWord → List ℕ → Bool → List ℕ → Type 0
 Joined b high known values = (known ≡ b .known) × (values ≡ joined b high)
 
 -- whether a row has one value for all lanes; what was not written has
-abbrev pub toldRow : List ℕ → Uniform
-toldRow row = cond (eqb (getD row 2 0) 0) Uneven (Value (getD row headBytes 0))
+abbrev pub toldRow : List ℕ → Told
+toldRow row = cond (eqb (getD row 2 0) 0) Lanes (Value (getD row headBytes 0))
 
-abbrev pub toldAt : Found → List ℕ → ℕ → Uniform
+abbrev pub toldAt : Found → List ℕ → ℕ → Told
 toldAt (At s) memory other = toldRow (rowAt memory s)
 toldAt (Free s) memory other = Value other
 toldAt Full memory other = Value other
 
-unfoldable pub toldByte : List ℕ → ℕ → ℕ → Uniform
+unfoldable pub toldByte : List ℕ → ℕ → ℕ → Told
 toldByte memory a other = toldAt (findRow memory a) memory other
 
 -- how many of a store's n bytes have no row yet

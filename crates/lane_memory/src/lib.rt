@@ -9,7 +9,7 @@ ghost use Rattle.lane_word.specs.Word.{lanes, constant};
 ghost use Rattle.predicate_semantics.specs.Memory.{Written};
 ghost use Rattle.lane_memory.specs.Rows.{headBytes, rowBytes, rowCount, held, probe, next, hop, onward, hops, tries, findRow, byteValue, byteOf, headOf, laneRow, valueRow, writeRow, storeByte, storeValue, storeBytes, storeValues, rowAt, laneByte, rowByte, loadByte, joined, Joined, toldRow, toldByte, newAt, newBytes, unmarked, cleared};
 use lane_word::LaneWord;
-use lane_word::Uniform;
+use lane_word::Told;
 use riscv32imc::arithmetic::Binary;
 use riscv32imc::arithmetic::value;
 
@@ -305,26 +305,26 @@ pub fn load_byte(rows: &[u8], address: u32, other: u8) -> LaneWord
     }
 }
 
-fn told_row(rows: &[u8], row: usize) -> Uniform
+fn told_row(rows: &[u8], row: usize) -> Told
     requires { ⌜ row * rowBytes + rowBytes ≤ length (now rows) ⌝ }
     ensures { λ r. ⌜ r ≡ toldRow (rowAt (now (rows .entry)) row) ⌝ }
 {
     let at = row * ROW_BYTES;
     if rows[at + 2] == 0 {
-        return Uniform::Uneven;
+        return Told::Lanes;
     }
-    Uniform::Value(wide(rows[at + HEAD_BYTES]))
+    Told::Value(wide(rows[at + HEAD_BYTES]))
 }
 
 // The byte at an address where one value is told for all lanes: no lane is compared.
-pub fn told_byte(rows: &[u8], address: u32, other: u8) -> Uniform
+pub fn told_byte(rows: &[u8], address: u32, other: u8) -> Told
     ensures { λ r. ⌜ r ≡ toldByte (now (rows .entry)) address other ⌝ }
 {
     let found = find(rows, address);
     match found {
         Found::At(row) => told_row(rows, row),
-        Found::Free(_) => Uniform::Value(wide(other)),
-        Found::Full => Uniform::Value(wide(other)),
+        Found::Free(_) => Told::Value(wide(other)),
+        Found::Full => Told::Value(wide(other)),
     }
 }
 

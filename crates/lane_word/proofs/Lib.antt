@@ -2,5 +2,5 @@
 pub mod Tab
 pub mod Scan
 pub mod Words
-pub mod Told
+pub mod ToldLaws
 pub mod OneFlag

@@ -1,4 +1,4 @@
--- Lane words (document 01, "Lane word"): a value for each lane, and whether they are known. Over any number of lanes.
+-- Lane words (document 01, "Lane word"), over any number of lanes.
 use mathlib.Core.Bool.{Bool, true, false, cond, _&&_}
 use mathlib.Core.List.{List, [], _∷_, map}
 use Prim.Native.Nat.{ℕ, zero, suc}
@@ -8,14 +8,15 @@ use Rattle.lane_word.specs.declared.LaneWord.{LaneWord}
 use Rattle.lane_word.specs.declared.Uniform.{Uniform}
 use Rattle.lane_word.specs.declared.Uniform.the-variants.{Value, Unknown, Uneven}
 
--- lane k belongs to input 6 + k
+-- the input that lane 0 is for; each lane after it is for the next input
 abbrev pub firstInput : ℕ
 firstInput = 6
 
+-- one for every input from there up to 255
 abbrev pub lanes : ℕ
 lanes = 250
 
--- three ways to begin one: unknown (values 0), constant, and the input domain
+-- a word of which nothing is known, one value in every lane, and each lane its own input
 unfoldable pub unknown : ℕ → LaneWord
 unknown lanes = record { values = replicate lanes 0; known = false }
 
@@ -25,13 +26,13 @@ constant lanes v = record { values = replicate lanes v; known = true }
 unfoldable pub domain : List ℕ → LaneWord
 domain inputs = record { values = inputs; known = true }
 
--- lane by lane
+-- two lists as one, element by element
 unfoldable pub zip : (ℕ → ℕ → ℕ) → List ℕ → List ℕ → List ℕ
 zip f [] ys = []
 zip f (x ∷ xs) [] = []
 zip f (x ∷ xs) (y ∷ ys) = f x y ∷ zip f xs ys
 
--- a result is known exactly if every operand it takes is
+-- an operation lane by lane; one unknown operand makes the whole result unknown
 unfoldable pub unary : (ℕ → ℕ) → LaneWord → LaneWord
 unary f a = record { values = map f (a .values); known = a .known }
 
@@ -43,14 +44,14 @@ unfoldable pub every : ℕ → List ℕ → Bool
 every v [] = true
 every v (x ∷ xs) = eqb x v && every v xs
 
--- "Uniform" is tested so: unknown first, then unequal
+-- the uniform test: an unknown word is not compared; a known one has one value or is uneven
 unfoldable pub uniformOf : LaneWord → Uniform
 uniformOf w =
     cond (w .known)
     (cond (every (getD (w .values) 0 0) (w .values)) (Value (getD (w .values) 0 0)) Uneven)
     Unknown
 
--- count inputs from the first on: lane k belongs to input first + k
+-- as many inputs, one after another
 unfoldable pub inputs : ℕ → ℕ → List ℕ
 inputs first zero = []
 inputs first (suc count) = first ∷ inputs (suc first) count

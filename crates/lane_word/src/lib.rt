@@ -1,4 +1,4 @@
-// Lane words: 250 values of 32 bits, one for each input, and whether they are known.
+// Lane words: a value of 32 bits for each lane, and whether they are known.
 ghost use mathlib.Core.Path.{_≡_};
 ghost use mathlib.Core.Bool.{_&&_};
 ghost use lib.ListN.{length};
@@ -6,7 +6,7 @@ ghost use Rattle.riscv32imc.specs.Arithmetic.{add, sub, sll, srl, sra, slt, slt
 ghost use Rattle.riscv32imc.specs.Bits.{signExtend};
 ghost use Rattle.riscv32imc.specs.Value.{valueOf};
 ghost use Rattle.lane_word.specs.Word.{firstInput, lanes, unknown, constant, domain, inputs, zip, unary, binary, uniformOf};
-ghost use Rattle.lane_word.specs.Told.{wordOf, toldBy, isValue};
+ghost use Rattle.lane_word.specs.Told.{wordOf, toldBy};
 use riscv32imc::arithmetic::Binary;
 use riscv32imc::arithmetic::value;
 
@@ -16,14 +16,21 @@ pub struct LaneWord {
     pub known: bool,
 }
 
-// What a uniform test finds.
+// What the uniform test finds.
 pub enum Uniform {
     Value(u32),
     Unknown,
     Uneven,
 }
 
-fn both(a: bool, b: bool) -> bool
+// What is kept of a word or a byte: one value for every lane, or only its lanes tell.
+pub enum Told {
+    Value(u32),
+    Lanes,
+}
+
+// Two flags as one: a result is known where both are.
+pub fn both(a: bool, b: bool) -> bool
     ensures { λ r. ⌜ r ≡ (a && b) ⌝ }
 {
     a && b
@@ -41,7 +48,7 @@ fn zip_values(operation: Binary, left: &[u32], out: &mut [u32])
     }
 }
 
-// The value that all lanes share: unknown is tested first, then the values, up to the first unlike lane 0's.
+// The uniform test: the flag, then the values, as far as they equal lane 0's.
 pub fn tell(known: bool, values: &[u32]) -> Uniform
     ensures { λ r. ⌜ r ≡ uniformOf (record { values = now (values .entry); known = known }) ⌝ }
 {
@@ -65,43 +72,30 @@ pub fn tell(known: bool, values: &[u32]) -> Uniform
 }
 
 // The word that is told: by one value for all lanes, else by its lanes.
-pub fn lanes_of(told: Uniform, word: LaneWord) -> LaneWord
+pub fn lanes_of(told: Told, word: LaneWord) -> LaneWord
     ensures { λ r. ⌜ r ≡ wordOf told word ⌝ }
 {
     match told {
-        Uniform::Value(value) => LaneWord::constant(value),
-        Uniform::Unknown => word,
-        Uniform::Uneven => word,
+        Told::Value(value) => LaneWord::constant(value),
+        Told::Lanes => word,
     }
 }
 
 // An operation of two told values; of other words only the lanes tell.
-pub fn told_by(operation: Binary, left: Uniform, right: Uniform) -> Uniform
+pub fn told_by(operation: Binary, left: Told, right: Told) -> Told
     ensures { λ r. ⌜ r ≡ toldBy (valueOf operation) left right ⌝ }
 {
     match left {
-        Uniform::Unknown => Uniform::Uneven,
-        Uniform::Uneven => Uniform::Uneven,
-        Uniform::Value(a) => match right {
-            Uniform::Unknown => Uniform::Uneven,
-            Uniform::Uneven => Uniform::Uneven,
-            Uniform::Value(b) => Uniform::Value(value(operation, a, b)),
+        Told::Value(a) => match right {
+            Told::Value(b) => Told::Value(value(operation, a, b)),
+            Told::Lanes => Told::Lanes,
         },
-    }
-}
-
-pub fn is_value(told: Uniform) -> bool
-    ensures { λ r. ⌜ r ≡ isValue told ⌝ }
-{
-    match told {
-        Uniform::Value(_) => true,
-        Uniform::Unknown => false,
-        Uniform::Uneven => false,
+        Told::Lanes => Told::Lanes,
     }
 }
 
 impl LaneWord {
-    // Lane k belongs to input FIRST_INPUT + k.
+    // Lane 0's input; the lanes after it have the next ones.
     pub const FIRST_INPUT: u8 = 6;
 
     pub const LANES: usize = 250;

@@ -1,12 +1,9 @@
 use mathlib.Core.Path.{sym, ap, _∙_}
 use native.Mathlib.Omega.{arith}
 use borrow.Author.Needs.{needs}
-use denote.Ref.{now}
-use Rattle.lane_word.specs.Told.{isValue}
 use Rattle.predicate_semantics.specs.Refusal.{_>>=_}
-use Rattle.lane_access.specs.Seen.{toldSeen}
 use Rattle.lane_access.specs.Answers.{verdictOf, toldLoad}
-use Rattle.lane_access.proofs.Loads.{inside-fits, told-uneven}
+use Rattle.lane_access.proofs.Loads.{inside-fits}
 use Rattle.lane_access.proofs.load.Statement.{statement}
 use Rattle.lane_access.proofs.load.Tie as tie
 
@@ -26,7 +23,6 @@ load-spec =
     (f .0, omega (arith, f .1)))
     (λ c. search needs)
     (λ c. search needs)
-    (λ c. search needs)
     (λ c.
     let b = c .before .before .before in
     let t = b .before in
@@ -34,16 +30,4 @@ load-spec =
     (λ c.
     let b = c .before .before in
     let t = b .before in
-    let a = t .before .before .before .before .before .args in
-    rw (
-      sym (t .before .before .range-of .ensures) ∙ ap verdictOf (t .enum-told .given .1),
-      told-uneven (toldSeen (now (a .image)) (now (a .rows))) (a .width) (a .address) (ap isValue (sym (b .told-bytes .ensures) ∙ c .enum-told2 .given .1)),
-    ))
-    (λ c.
-    let b = c .before .before in
-    let t = b .before in
-    let a = t .before .before .before .before .before .args in
-    rw (
-      sym (t .before .before .range-of .ensures) ∙ ap verdictOf (t .enum-told .given .1),
-      told-uneven (toldSeen (now (a .image)) (now (a .rows))) (a .width) (a .address) (ap isValue (sym (b .told-bytes .ensures) ∙ c .enum-told3 .given .1)),
-    )))
+    rw (sym (t .before .before .range-of .ensures) ∙ ap verdictOf (t .enum-told .given .1), ← (b .told-bytes .ensures), c .enum-told2 .given .1)))

@@ -9,7 +9,5 @@ lanes-of-spec =
     (λ c. search needs)
     (λ c κs. search needs)
     (λ c. search needs)
-    (λ c. search needs)
     (λ c. rw (c .before .before .told .given .1) (c .constant .ensures))
-    (λ c. search needs)
     (λ c. search needs))

@@ -4,17 +4,18 @@ use native.Mathlib.Omega.{arith}
 use denote.Ref.{now}
 use borrow.Author.Needs.{needs}
 use Rattle.riscv32imc.specs.Value.{valueOf}
+use Rattle.lane_word.specs.Word.{lanes}
 use Rattle.lane_word.proofs.Tab.{Zipping, zip-start, zip-step, zip-exit}
 use Rattle.lane_word.proofs.zip_values.Statement.{statement}
 use Rattle.lane_word.proofs.zip_values.Tie as tie
 
 abbrev I : tie.InvT-loop
-I operation left out₀ k₀ out k = Zipping (valueOf operation) left out₀ 250 out k
+I operation left out₀ k₀ out k = Zipping (valueOf operation) left out₀ lanes out k
 
 pub zip-values-spec : {M : Type 1} → statement M
 zip-values-spec =
     tie.close
-    (tie.spec I (λ operation left out₀ k₀ out k. 250 - k)
+    (tie.spec I (λ operation left out₀ k₀ out k. lanes - k)
     (λ c. zip-start (c .before .before .pre .1))
     (λ c. search needs)
     (λ c. omega (arith, c .before .before .before .before .before .pre .0, c .before .loop-test .taken))

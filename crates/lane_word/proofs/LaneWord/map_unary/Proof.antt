@@ -2,19 +2,19 @@ use Prim.Native.Nat.{_-_}
 use borrow.Author.Needs.{needs}
 use lib.ListN.{getD}
 use Rattle.riscv32imc.specs.Value.{valueOf}
-use Rattle.lane_word.specs.Word.{unary}
+use Rattle.lane_word.specs.Word.{lanes, unary}
 use Rattle.lane_word.proofs.Tab.{Tab, tab-start, tab-step, tab-map}
 use Rattle.lane_word.proofs.LaneWord.map_unary.Statement.{statement}
 use Rattle.lane_word.proofs.LaneWord.map_unary.Tie as tie
 
 abbrev I : tie.InvT-loop
-I self operation operand left out₀ k₀ out k = Tab (λ i. valueOf operation (getD left i 0) operand) 250 out k
+I self operation operand left out₀ k₀ out k = Tab (λ i. valueOf operation (getD left i 0) operand) lanes out k
 
 pub map-unary-spec : {M : Type 1} → statement M
 unfolding unary
 map-unary-spec =
     tie.close
-    (tie.spec I (λ self operation operand left out₀ k₀ out k. 250 - k)
+    (tie.spec I (λ self operation operand left out₀ k₀ out k. lanes - k)
     (λ c. tab-start (search needs))
     (λ c. search needs)
     (λ c. search needs)

@@ -10,8 +10,10 @@ use lib.ListN.{length, getD, replicate, length-replicate, length-map}
 use Rattle.lane_word.specs.declared.LaneWord.{LaneWord}
 use Rattle.lane_word.specs.declared.Uniform.{Uniform}
 use Rattle.lane_word.specs.declared.Uniform.the-variants.{Value, Unknown, Uneven}
-use Rattle.lane_word.specs.Word.{constant, zip, unary, binary, every, uniformOf}
-use Rattle.lane_word.specs.Told.{wordOf, toldBy, isValue}
+use Rattle.lane_word.specs.declared.Told.{Told}
+use Rattle.lane_word.specs.declared.Told.the-variants as told
+use Rattle.lane_word.specs.Word.{lanes, constant, zip, unary, binary, every, uniformOf}
+use Rattle.lane_word.specs.Told.{wordOf, toldBy}
 use Rattle.lane_word.proofs.Tab.{length-zip}
 
 -- ---- sizes
@@ -28,10 +30,9 @@ pub binary-size : (f : ℕ → ℕ → ℕ) (a b : LaneWord) {n : ℕ} → lengt
 unfolding binary
 binary-size f a b e d = length-zip f (a .values) (b .values) (e ∙ sym d) ∙ e
 
-pub word-size : (u : Uniform) (w : LaneWord) → length (w .values) ≡ 250 → length (wordOf u w .values) ≡ 250
-word-size (Value v) w e = constant-size 250 v
-word-size Unknown w e = e
-word-size Uneven w e = e
+pub word-size : (u : Told) (w : LaneWord) → length (w .values) ≡ lanes → length (wordOf u w .values) ≡ lanes
+word-size (told.Value v) w e = constant-size lanes v
+word-size told.Lanes w e = e
 
 -- ---- one value in every lane
 
@@ -89,11 +90,6 @@ all-same v [] e = refl
 all-same v (x ∷ l) e =
     let p = and-both (eqb x v) (every v l) e in rw (eqb-true x v (p .0)) (ap (λ (m : List ℕ). v ∷ m) (all-same v l (p .1)))
 
-abbrev valueOr : ℕ → Uniform → ℕ
-valueOr d (Value v) = v
-valueOr d Unknown = d
-valueOr d Uneven = d
-
 abbrev word : List ℕ → Bool → LaneWord
 word values known = record { values = values; known = known }
 
@@ -101,23 +97,25 @@ constant-by : (w : LaneWord) (n v : ℕ) → w .known ≡ true → w .values ≡
 unfolding constant
 constant-by w n v k l = ap₂ word l k
 
+clash : _≡_ {A = ℕ} 0 1 → ⊥
+clash z = omega arith
+
 -- a word that is uniform is that value in every lane
-pub told-is : (w : LaneWord) (v : ℕ) → length (w .values) ≡ 250 → uniformOf w ≡ Value v → w ≡ constant 250 v
+pub told-is : (w : LaneWord) (v : ℕ) → length (w .values) ≡ lanes → uniformOf w ≡ Value v → w ≡ constant lanes v
 unfolding uniformOf
 told-is w v e h = go (w .known) refl (every (getD (w .values) 0 0) (w .values)) refl h
   where
     go : (b : Bool) → w .known ≡ b → (c : Bool) → every (getD (w .values) 0 0) (w .values) ≡ c
-        → cond b (cond c (Value (getD (w .values) 0 0)) Uneven) Unknown ≡ Value v → w ≡ constant 250 v
+        → cond b (cond c (Value (getD (w .values) 0 0)) Uneven) Unknown ≡ Value v → w ≡ constant lanes v
     go true k true s q =
-        let z : getD (w .values) 0 0 ≡ v = ap (valueOr 0) q in
-        constant-by w 250 v k (all-same _ (w .values) s ∙ rw (e, z))
-    go true k false s q = absurd (true≢false (ap isValue (sym q)))
-    go false k c s q = absurd (true≢false (ap isValue (sym q)))
+        let z : getD (w .values) 0 0 ≡ v = cc in
+        constant-by w lanes v k (all-same _ (w .values) s ∙ rw (e, z))
+    go true k false s q = absurd (clash (cc))
+    go false k c s q = absurd (clash (cc))
 
 -- two told values tell of their operation what its lanes would
-pub told-by-value : (f : ℕ → ℕ → ℕ) (l r : Uniform) (x y : LaneWord) → isValue (toldBy f l r) ≡ true → toldBy f l r ≡ uniformOf (binary f (wordOf l x) (wordOf r y))
-told-by-value f (Value a) (Value b) x y e = sym (ap uniformOf (binary-constants f 250 a b) ∙ uniform-constant 250 (f a b) (omega arith))
-told-by-value f (Value a) Unknown x y e = absurd (true≢false (sym e))
-told-by-value f (Value a) Uneven x y e = absurd (true≢false (sym e))
-told-by-value f Unknown r x y e = absurd (true≢false (sym e))
-told-by-value f Uneven r x y e = absurd (true≢false (sym e))
+pub told-by-value : (f : ℕ → ℕ → ℕ) (l r : Told) (x y : LaneWord) {v : ℕ} → toldBy f l r ≡ told.Value v → uniformOf (binary f (wordOf l x) (wordOf r y)) ≡ Value v
+told-by-value f (told.Value a) (told.Value b) x y {v} e =
+    let z : f a b ≡ v = cc in ap uniformOf (binary-constants f lanes a b) ∙ uniform-constant lanes (f a b) (omega arith) ∙ ap Value z
+told-by-value f (told.Value a) told.Lanes x y e = absurd (clash (cc))
+told-by-value f told.Lanes r x y e = absurd (clash (cc))
