@@ -1,6 +1,6 @@
 -- What the tests of a load and the parts of a fetch come to. Assumes nothing.
 use mathlib.Core.Path.{_≡_, refl, sym, ap, ap₂, _∙_}
-use mathlib.Core.Bool.{Bool, true, false, cond, true≢false}
+use mathlib.Core.Bool.{Bool, true, false, cond}
 use mathlib.Core.List.{List, [], _∷_}
 use Prim.Native.Nat.{ℕ, zero, suc, _+_, _-_, _*_, _%_, _^_, _≤_, _<_}
 use native.Mathlib.Nat.{mod-eq-of-lt, pow-suc}
@@ -24,8 +24,8 @@ use Rattle.lane_word.proofs.ToldLaws.{binary-constants, uniform-constant}
 use Rattle.predicate_semantics.specs.Choice.{choose}
 use Rattle.predicate_semantics.specs.Program.{memoryEnd, initial}
 use Rattle.predicate_semantics.specs.Memory.{LaneBytes, read}
-use Rattle.predicate_semantics.specs.Refusal.{Refusal, Tested, passed, refused, refuse, require, found, _>>=_}
-use Rattle.predicate_semantics.specs.Lane.{inside, agreed, access, accessAgreed, fetchWord, fetch}
+use Rattle.predicate_semantics.specs.Refusal.{Refusal, Tested, passed, refused, refuse, require, _>>=_}
+use Rattle.predicate_semantics.specs.Lane.{inside, agreedAs, agreed, access, accessAgreed, expandHalfword, fetchFour, fetch}
 use Rattle.predicate_semantics.specs.Standing.{standingCore}
 use Rattle.lane_memory.specs.Rows.{loadByte, toldByte}
 use Rattle.lane_memory.proofs.Laws.{load-below, told-byte}
@@ -33,23 +33,16 @@ use Rattle.lane_access.specs.Seen.{offsetOf, seen, toldSeen, toldRead, L
 use Rattle.lane_access.specs.declared.Accessed.{Accessed}
 use Rattle.lane_access.specs.declared.Loading.{Loading}
 use Rattle.lane_access.specs.declared.Loading.the-variants as loading
-use Rattle.lane_access.specs.Answers.{refusalOf, testedAs, accessedOf, accessedAs, loadingOf, toldLoad, decodedAs, expandedAs, fourAs}
+use Rattle.lane_access.specs.Answers.{refusalOf, accessedOf, accessedAs, loadingOf, toldLoad}
 
-tested : (role v : ℕ) (b c : Bool)
-    → choose b (λ _. choose c (λ _. passed v) (λ _. refuse 7 role)) (λ _. refuse 6 role)
-    ≡ testedAs role (cond b (cond c (uniform.Value v) uniform.Uneven) uniform.Unknown)
-unfolding choose
-tested role v true true = refl
-tested role v true false = refl
-tested role v false c = refl
-
-pub agreed-is : (role : ℕ) (w : LaneWord) → agreed role w ≡ testedAs role (uniformOf w)
-unfolding agreed uniformOf
-agreed-is role w = tested role (getD (w .values) 0 0) (w .known) (every (getD (w .values) 0 0) (w .values))
+-- what the lanes agree on is the uniform test's answer
+pub agreed-is : (role : ℕ) (w : LaneWord) → agreed role w ≡ agreedAs role (uniformOf w)
+unfolding agreed
+agreed-is role w = refl
 
 -- a constant passes every uniform test
 pub agreed-constant : (role v : ℕ) → agreed role (constant lanes v) ≡ passed v
-agreed-constant role v = agreed-is role (constant lanes v) ∙ ap (testedAs role) (uniform-constant lanes v (omega arith))
+agreed-constant role v = agreed-is role (constant lanes v) ∙ ap (agreedAs role) (uniform-constant lanes v (omega arith))
 
 -- the byte by the code's test
 module _ (image rows : List ℕ) (a : ℕ) {b : Bool} (is : b ≡ ltb (offsetOf a) (length image)) where
@@ -278,10 +271,10 @@ first-seen image rows h k a = go (ltb (offsetOf a) (length image)) (ltb a imageB
     go false c = load-below rows a 0 k (omega arith) 0
 
 agreed-first : (role v : ℕ) (w : LaneWord) → agreed role w ≡ passed v → getD (w .values) 0 0 ≡ v
-unfolding agreed choose refuse
+unfolding agreed uniformOf refuse
 agreed-first role v w h = go (w .known) (every (getD (w .values) 0 0) (w .values)) h
   where
-    go : (b c : Bool) → choose b (λ _. choose c (λ _. passed (getD (w .values) 0 0)) (λ _. refuse 7 role)) (λ _. refuse 6 role) ≡ passed v → getD (w .values) 0 0 ≡ v
+    go : (b c : Bool) → agreedAs role (cond b (cond c (uniform.Value (getD (w .values) 0 0)) uniform.Uneven) uniform.Unknown) ≡ passed v → getD (w .values) 0 0 ≡ v
     go true true h = cc
     go true false h = absurd (clash (cc))
     go false c h = absurd (clash (cc))
@@ -296,24 +289,19 @@ half-below image rows h k role a v e = go (inside a 2) refl
         rw f at (first-read (seen image rows) (first-seen image rows h k) 2 a (omega arith))
     go (refused r) p = let q : refused r ≡ passed v = sym (agreed-outside (seen image rows) 2 a role r p) ∙ e in absurd (clash (cc))
 
--- ---- the parts of a fetch
-
-bind-bind : {A B C : Type 0} (t : Tested A) (f : A → Tested B) (g : B → Tested C) → (t >>= f >>= g) ≡ (t >>= λ x. f x >>= g)
-unfolding _>>=_
-bind-bind (passed a) f g = refl
-bind-bind (refused r) f g = refl
+-- ---- the ways of a fetch
 
 module _ (memory : LaneBytes) (pc steps : ℕ) where
   pub fetch-refused : (r : Refusal) → accessAgreed (inputs firstInput lanes) 1 memory 2 pc ≡ refused r → fetch (inputs firstInput lanes) standingCore memory steps pc ≡ refused r
-  unfolding fetch fetchWord _>>=_
+  unfolding fetch _>>=_
   fetch-refused r h = rw h
 
   pub fetch-whole : (half : ℕ) → accessAgreed (inputs firstInput lanes) 1 memory 2 pc ≡ passed half → half % 4 ≡ 3
-      → fetch (inputs firstInput lanes) standingCore memory steps pc ≡ fourAs memory pc
-  unfolding fetch fetchWord fourAs decodedAs standingCore choose _>>=_
-  fetch-whole half h e = rw (h, eq-eqb (half % 4) 3 e) (bind-bind (accessAgreed (inputs firstInput lanes) 1 memory 4 pc) _ _)
+      → fetch (inputs firstInput lanes) standingCore memory steps pc ≡ fetchFour (inputs firstInput lanes) standingCore memory steps pc
+  unfolding fetch choose _>>=_
+  fetch-whole half h e = rw (h, eq-eqb (half % 4) 3 e)
 
   pub fetch-half : (half : ℕ) → accessAgreed (inputs firstInput lanes) 1 memory 2 pc ≡ passed half → (half % 4 ≡ 3 → ⊥)
-      → fetch (inputs firstInput lanes) standingCore memory steps pc ≡ expandedAs half
-  unfolding fetch fetchWord expandedAs decodedAs standingCore choose _>>=_
-  fetch-half half h e = rw (h, ne-eqb (half % 4) 3 e) (bind-bind (found 8 (standingCore .expand half)) _ _)
+      → fetch (inputs firstInput lanes) standingCore memory steps pc ≡ expandHalfword standingCore steps half
+  unfolding fetch choose _>>=_
+  fetch-half half h e = rw (h, ne-eqb (half % 4) 3 e)

@@ -3,15 +3,11 @@ use mathlib.Core.List.{List}
 use Prim.Native.Nat.{ℕ}
 use Rattle.riscv_decode.specs.declared.Fetched.{Fetched}
 use Rattle.lane_word.specs.declared.LaneWord.{LaneWord}
-use Rattle.lane_word.specs.declared.Uniform.{Uniform}
-use Rattle.lane_word.specs.declared.Uniform.the-variants.{Value, Unknown, Uneven}
 use Rattle.lane_word.specs.declared.Told.{Told}
 use Rattle.lane_word.specs.declared.Told.the-variants as told
-use Rattle.lane_word.specs.Word.{unknown, inputs, firstInput, lanes}
-use Rattle.predicate_semantics.specs.Refusal.{Refusal, Tested, passed, refused, refuse, _>>=_, found}
-use Rattle.predicate_semantics.specs.Memory.{LaneBytes}
-use Rattle.predicate_semantics.specs.Lane.{inside, accessAgreed}
-use Rattle.predicate_semantics.specs.Standing.{standingCore}
+use Rattle.lane_word.specs.Word.{unknown, lanes}
+use Rattle.predicate_semantics.specs.Refusal.{Refusal, Tested, passed, refused, _>>=_}
+use Rattle.predicate_semantics.specs.Lane.{inside}
 use Rattle.lane_access.specs.Seen.{toldSeen, toldRead}
 use Rattle.lane_access.specs.declared.Role.{Role}
 use Rattle.lane_access.specs.declared.Role.the-variants as role
@@ -65,12 +61,6 @@ abbrev pub agreedOf : Agreed → Tested ℕ
 agreedOf (agreed.Value v) = passed v
 agreedOf (agreed.Refused e) = refused (refusalOf e)
 
--- what a uniform test finds: unknown is 6, unequal 7
-abbrev pub testedAs : ℕ → Uniform → Tested ℕ
-testedAs r (Value v) = passed v
-testedAs r Unknown = refuse 6 r
-testedAs r Uneven = refuse 7 r
-
 -- the whole answer to a load: its verdict, and its word beside it
 abbrev pub accessedOf : Accessed → Tested (Unit {0}) × LaneWord
 accessedOf a = (verdictOf (a .verdict), a .word)
@@ -95,19 +85,3 @@ toldLoad image rows n a = do
 abbrev pub fetchingOf : Fetching → Tested Fetched
 fetchingOf (fetching.Got f) = passed f
 fetchingOf (fetching.Refused e) = refused (refusalOf e)
-
--- the parts of a fetch, as the semantics has them: the operation of a word, a halfword expanded, four bytes
-unfoldable pub decodedAs : ℕ → ℕ → Tested Fetched
-decodedAs word n = do
-  operation ← found 9 (standingCore .decode 0 word)
-  passed (record { operation = operation; length = n; word = word })
-
-unfoldable pub expandedAs : ℕ → Tested Fetched
-expandedAs half = do
-  word ← found 8 (standingCore .expand half)
-  decodedAs word 2
-
-unfoldable pub fourAs : LaneBytes → ℕ → Tested Fetched
-fourAs memory pc = do
-  word ← accessAgreed (inputs firstInput lanes) 1 memory 4 pc
-  decodedAs word 4

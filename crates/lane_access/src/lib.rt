@@ -7,11 +7,11 @@ ghost use Rattle.riscv32imc.specs.Constants.{imageBase};
 ghost use Rattle.lane_word.specs.Word.{inputs, firstInput, lanes};
 ghost use Rattle.predicate_semantics.specs.Program.{initial};
 ghost use Rattle.predicate_semantics.specs.Memory.{read};
-ghost use Rattle.predicate_semantics.specs.Lane.{agreed, inside, access, accessAgreed, fetch};
+ghost use Rattle.predicate_semantics.specs.Lane.{agreedAs, agreed, inside, access, accessAgreed, decodeWord, expandHalfword, fetchFour, fetch};
 ghost use Rattle.predicate_semantics.specs.Standing.{standingCore};
 ghost use Rattle.lane_memory.specs.Rows.{Joined};
 ghost use Rattle.lane_access.specs.Seen.{offsetOf, seen, toldSeen, toldRead, FromImage};
-ghost use Rattle.lane_access.specs.Answers.{roleOf, verdictOf, agreedOf, testedAs, accessedOf, accessedAs, loadingOf, toldLoad, fetchingOf, decodedAs, expandedAs, fourAs};
+ghost use Rattle.lane_access.specs.Answers.{roleOf, verdictOf, agreedOf, accessedOf, accessedAs, loadingOf, toldLoad, fetchingOf};
 use lane_word::LaneWord;
 use lane_word::Told;
 use lane_word::Uniform;
@@ -101,7 +101,7 @@ pub fn range_of(address: u32, width: u32) -> Verdict
 
 // What a uniform test found, or the refusal in this role.
 pub fn agreed_in(tested: Uniform, role: Role) -> Agreed
-    ensures { λ r. ⌜ agreedOf r ≡ testedAs (roleOf role) tested ⌝ }
+    ensures { λ r. ⌜ agreedOf r ≡ agreedAs (roleOf role) tested ⌝ }
 {
     match tested {
         Uniform::Value(value) => Agreed::Value(value),
@@ -279,7 +279,7 @@ pub fn access_agreed(image: &[u8], rows: &[u8], address: u32, width: u32, role: 
 
 // The operation of a word, with its length.
 fn decoded(word: u32, length: u32) -> Fetching
-    ensures { λ r. ⌜ fetchingOf r ≡ decodedAs word length ⌝ }
+    ensures { λ r. ⌜ ((steps : ℕ) → fetchingOf r ≡ decodeWord standingCore steps word length) ⌝ }
 {
     let known = riscv_decode::decode(word);
     match known {
@@ -294,7 +294,7 @@ fn decoded(word: u32, length: u32) -> Fetching
 
 // A halfword, expanded.
 fn expanded(half: u16) -> Fetching
-    ensures { λ r. ⌜ fetchingOf r ≡ expandedAs half ⌝ }
+    ensures { λ r. ⌜ ((steps : ℕ) → fetchingOf r ≡ expandHalfword standingCore steps half) ⌝ }
 {
     let expansion = riscv32imc::decompress(half);
     match expansion {
@@ -305,7 +305,7 @@ fn expanded(half: u16) -> Fetching
 
 // An instruction of four bytes.
 fn fetch_four(image: &[u8], rows: &[u8], pc: u32) -> Fetching
-    ensures { λ r. ⌜ fetchingOf r ≡ fourAs (seen (now (image .entry)) (now (rows .entry))) pc ⌝ }
+    ensures { λ r. ⌜ ((steps : ℕ) → fetchingOf r ≡ fetchFour (inputs firstInput lanes) standingCore (seen (now (image .entry)) (now (rows .entry))) steps pc) ⌝ }
 {
     let whole = access_agreed(image, rows, pc, 4, Role::Fetch);
     match whole {

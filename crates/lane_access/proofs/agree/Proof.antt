@@ -1,6 +1,7 @@
 use mathlib.Core.Path.{sym, ap, _∙_}
 use borrow.Author.Needs.{needs}
-use Rattle.lane_access.specs.Answers.{roleOf, testedAs}
+use Rattle.predicate_semantics.specs.Lane.{agreedAs}
+use Rattle.lane_access.specs.Answers.{roleOf}
 use Rattle.lane_access.proofs.Loads.{agreed-is}
 use Rattle.lane_access.proofs.agree.Statement.{statement}
 use Rattle.lane_access.proofs.agree.Tie as tie
@@ -13,4 +14,4 @@ agree-spec =
     (λ c κs. search needs)
     (λ c.
     let a = c .before .before .args in
-    c .agreed-in .ensures ∙ ap (testedAs (roleOf (a .role))) (c .before .uniform-known .ensures) ∙ sym (agreed-is (roleOf (a .role)) (a .word))))
+    c .agreed-in .ensures ∙ ap (agreedAs (roleOf (a .role))) (c .before .uniform-known .ensures) ∙ sym (agreed-is (roleOf (a .role)) (a .word))))

@@ -1,13 +1,13 @@
 use mathlib.Core.Path.{sym, _∙_}
 use borrow.Author.Needs.{needs}
 use Rattle.predicate_semantics.specs.Refusal.{_>>=_, refuse, found}
+use Rattle.predicate_semantics.specs.Lane.{expandHalfword}
 use Rattle.predicate_semantics.specs.Standing.{expandedWord, standingCore}
-use Rattle.lane_access.specs.Answers.{expandedAs}
 use Rattle.lane_access.proofs.expanded.Statement.{statement}
 use Rattle.lane_access.proofs.expanded.Tie as tie
 
 pub expanded-spec : {M : Type 1} → statement M
-unfolding expandedAs standingCore expandedWord found refuse _>>=_
+unfolding expandHalfword standingCore expandedWord found refuse _>>=_
 expanded-spec =
     tie.close
     (tie.spec
@@ -15,5 +15,5 @@ expanded-spec =
     (λ c. search needs)
     (λ c κs. search needs)
     (λ c. search needs)
-    (λ c. rw (sym (c .before .before .before .before .decompress .ensures) ∙ c .before .before .expansion .given .1) (c .decoded .ensures))
-    (λ c. rw (sym (c .before .before .decompress .ensures) ∙ c .enum-told .given .1)))
+    (λ c steps. rw (sym (c .before .before .before .before .decompress .ensures) ∙ c .before .before .expansion .given .1) (c .decoded .ensures steps))
+    (λ c steps. rw (sym (c .before .before .decompress .ensures) ∙ c .enum-told .given .1)))
