@@ -1,3 +1,4 @@
--- What the code's actions mean.
-pub mod Action
-pub mod Computation
+-- To believe: what each operation does.
+pub mod Meaning
+-- For the code's proofs: what an action reads.
+pub mod Reading

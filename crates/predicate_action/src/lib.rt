@@ -1,9 +1,8 @@
-// What an operation does at a program counter, as data: the forms of the semantics, one case for each operation.
+// What an operation does at a program counter, as one of nine forms, and what a form reads.
 ghost use mathlib.Core.Path.{_≡_};
 ghost use Rattle.riscv32imc.specs.Arithmetic.{add};
-ghost use Rattle.predicate_semantics.specs.Meaning.{meaning};
-ghost use Rattle.predicate_action.specs.Action.{meaningOf, firstSource, secondSource};
-ghost use Rattle.predicate_action.specs.Computation.{withRegister, withNumber, computationOf};
+ghost use Rattle.predicate_action.specs.Meaning.{meaning};
+ghost use Rattle.predicate_action.specs.Reading.{ofSources, withNumber, readingOf};
 use riscv_decode::BType;
 use riscv_decode::IType;
 use riscv_decode::Operation;
@@ -20,40 +19,47 @@ pub enum Extension {
     Unchanged,
 }
 
-// The forms; a computation with an immediate is one of its own.
+// The forms. But for jumps and branches, the next program counter is that of the following instruction.
 pub enum Action {
     Nothing,
+    // rd becomes a number.
     Literal {
         rd: u32,
         value: u32,
     },
+    // rd becomes a function of two registers.
     Compute {
         rd: u32,
         function: Binary,
         rs1: u32,
         rs2: u32,
     },
+    // rd becomes a function of a register and a number.
     ComputeImmediate {
         rd: u32,
         function: Binary,
         rs1: u32,
         immediate: u32,
     },
+    // rd becomes the following instruction's address, and the target is next.
     Jump {
         rd: u32,
         target: u32,
     },
+    // The same, to the target by a register and an offset.
     JumpTo {
         rd: u32,
         rs1: u32,
         offset: u32,
     },
+    // The target is next where the test gives 1, the following instruction where it gives 0.
     Branch {
         test: Binary,
         rs1: u32,
         rs2: u32,
         target: u32,
     },
+    // rd becomes the bytes at rs1 + offset, extended.
     Load {
         rd: u32,
         rs1: u32,
@@ -61,6 +67,7 @@ pub enum Action {
         width: u32,
         extension: Extension,
     },
+    // The low bytes of rs2 go to rs1 + offset.
     Store {
         rs1: u32,
         rs2: u32,
@@ -138,7 +145,7 @@ fn compute(function: Binary, v: RType) -> Action
 
 // The operation at a program counter.
 pub fn action_of(operation: Operation, pc: u32) -> Action
-    ensures { λ r. ⌜ meaningOf r ≡ meaning operation pc ⌝ }
+    ensures { λ r. ⌜ r ≡ meaning operation pc ⌝ }
 {
     match operation {
         Operation::Lui(v) => Action::Literal {
@@ -201,83 +208,67 @@ pub fn action_of(operation: Operation, pc: u32) -> Action
     }
 }
 
-// The registers that an action reads; 0 where it reads none.
-pub fn first_source(action: Action) -> u32
-    ensures { λ r. ⌜ r ≡ firstSource action ⌝ }
-{
-    match action {
-        Action::Nothing => 0,
-        Action::Literal { .. } => 0,
-        Action::Compute { rs1, .. } => rs1,
-        Action::ComputeImmediate { rs1, .. } => rs1,
-        Action::Jump { .. } => 0,
-        Action::JumpTo { rs1, .. } => rs1,
-        Action::Branch { rs1, .. } => rs1,
-        Action::Load { rs1, .. } => rs1,
-        Action::Store { rs1, .. } => rs1,
-    }
-}
-
-pub fn second_source(action: Action) -> u32
-    ensures { λ r. ⌜ r ≡ secondSource action ⌝ }
-{
-    match action {
-        Action::Nothing => 0,
-        Action::Literal { .. } => 0,
-        Action::Compute { rs2, .. } => rs2,
-        Action::ComputeImmediate { .. } => 0,
-        Action::Jump { .. } => 0,
-        Action::JumpTo { .. } => 0,
-        Action::Branch { rs2, .. } => rs2,
-        Action::Load { .. } => 0,
-        Action::Store { rs2, .. } => rs2,
-    }
-}
-
-// What an action computes on its sources' lanes: a function of the first source and a second operand, which is the second source or one number.
-pub struct Computation {
+// What an action reads: the registers that are its sources, and a function of the first and a second operand, which is the second source or one number.
+pub struct Reading {
+    pub rs1: u32,
+    pub rs2: u32,
     pub function: Binary,
     pub immediate: bool,
     pub operand: u32,
 }
 
-fn with_register(function: Binary) -> Computation
-    ensures { λ r. ⌜ r ≡ withRegister function ⌝ }
+fn of_sources(function: Binary, rs1: u32, rs2: u32) -> Reading
+    ensures { λ r. ⌜ r ≡ ofSources function rs1 rs2 ⌝ }
 {
-    Computation {
+    Reading {
+        rs1,
+        rs2,
         function,
         immediate: false,
         operand: 0,
     }
 }
 
-fn with_number(function: Binary, operand: u32) -> Computation
-    ensures { λ r. ⌜ r ≡ withNumber function operand ⌝ }
+fn with_number(function: Binary, rs1: u32, rs2: u32, operand: u32) -> Reading
+    ensures { λ r. ⌜ r ≡ withNumber function rs1 rs2 operand ⌝ }
 {
-    Computation {
+    Reading {
+        rs1,
+        rs2,
         function,
         immediate: true,
         operand,
     }
 }
 
-// A result, a branch's test, a jump's target or an address; 0 of x0 where there is none.
-pub fn computation_of(action: Action) -> Computation
-    ensures { λ r. ⌜ r ≡ computationOf action ⌝ }
+// A result, a branch's test, a jump's target or an address; 0 for a source that there is not.
+pub fn reading_of(action: Action) -> Reading
+    ensures { λ r. ⌜ r ≡ readingOf action ⌝ }
 {
     match action {
-        Action::Nothing => with_number(Binary::Add, 0),
-        Action::Literal { .. } => with_number(Binary::Add, 0),
-        Action::Compute { function, .. } => with_register(function),
+        Action::Nothing => with_number(Binary::Add, 0, 0, 0),
+        Action::Literal { .. } => with_number(Binary::Add, 0, 0, 0),
+        Action::Compute {
+            function,
+            rs1,
+            rs2,
+            ..
+        } => of_sources(function, rs1, rs2),
         Action::ComputeImmediate {
             function,
+            rs1,
             immediate,
             ..
-        } => with_number(function, immediate),
-        Action::Jump { .. } => with_number(Binary::Add, 0),
-        Action::JumpTo { offset, .. } => with_number(Binary::Target, offset),
-        Action::Branch { test, .. } => with_register(test),
-        Action::Load { offset, .. } => with_number(Binary::Add, offset),
-        Action::Store { offset, .. } => with_number(Binary::Add, offset),
+        } => with_number(function, rs1, 0, immediate),
+        Action::Jump { .. } => with_number(Binary::Add, 0, 0, 0),
+        Action::JumpTo { rs1, offset, .. } => with_number(Binary::Target, rs1, 0, offset),
+        Action::Branch { test, rs1, rs2, .. } => of_sources(test, rs1, rs2),
+        Action::Load { rs1, offset, .. } => with_number(Binary::Add, rs1, 0, offset),
+        Action::Store {
+            rs1,
+            rs2,
+            offset,
+            ..
+        } => with_number(Binary::Add, rs1, rs2, offset),
     }
 }

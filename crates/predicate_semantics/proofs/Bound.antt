@@ -12,10 +12,10 @@ use Rattle.riscv_decode.specs.declared.Fetched.{Fetched}
 use Rattle.riscv_decode.specs.declared.Operation.the-variants.{Jal}
 use Rattle.lane_word.specs.Word.{constant}
 use Rattle.predicate_semantics.specs.declared.PredicateControlStep.{PredicateControlStep}
-use Rattle.predicate_semantics.specs.Program.{Program, sized, inMemory, placed}
-use Rattle.predicate_semantics.specs.State.{sets, assign, advance, apply}
+use Rattle.predicate_semantics.specs.Program.{Program, sized, inMemory, symbolsPlaced}
+use Rattle.predicate_semantics.specs.State.{sets, assign, advanced, apply}
 use Rattle.predicate_semantics.specs.Refusal.{passed, refuse, require, _>>=_}
-use Rattle.predicate_semantics.specs.Lane.{LaneState, Setup, Ended, on, lanes, look, step, run, startTests, begin, start, laneRun}
+use Rattle.predicate_semantics.specs.Lane.{LaneState, Setup, Ended, on, laneCount, attempt, step, run, startTests, begin, start, laneRun}
 use Rattle.predicate_semantics.specs.Standing.{standing, setup, standingLaneRun}
 use Rattle.predicate_semantics.specs.Cases.{symbols, refuses, meets, holds}
 use Rattle.predicate_semantics.specs.Bound.{RefusedAtBound, StepBound}
@@ -48,10 +48,10 @@ module _ (image : List ℕ) (rows entries : ℕ) where
   -- there the image jumps to itself
   abbrev Spins : ℕ → Type 0
   Spins bytes = (n : ℕ) (trace : List PredicateControlStep)
-      → look p l (spun n trace) ≡ passed (record { fetched = jump-to-itself bytes; effect = sets 0 (constant (lanes p l) (add imageBase bytes)) imageBase })
+      → attempt p l (spun n trace) ≡ passed (record { fetched = jump-to-itself bytes; effect = sets 0 (constant (laneCount p l) (add imageBase bytes)) imageBase })
 
   starts : sized (length image) ≡ true → 4 ≤ rows → start p l ≡ passed (spun 0 [])
-  unfolding start startTests placed inMemory require _>>=_ begin standing setup symbols
+  unfolding start startTests symbolsPlaced inMemory require _>>=_ begin standing setup symbols
   starts small lent = rw (small, le-leb 4 rows lent)
 
   module _ (bytes : ℕ) (spins : Spins bytes) where
@@ -64,7 +64,7 @@ module _ (image : List ℕ) (rows entries : ℕ) where
     }
 
     step-spun : (n : ℕ) (trace : List PredicateControlStep) → n < entries → step p l (spun n trace) ≡ passed (spun (suc n) (trace ++ entry ∷ []))
-    unfolding step require _>>=_ apply advance assign setup
+    unfolding step require _>>=_ apply advanced assign setup
     step-spun n trace h = rw (spins n trace, lt-ltb n entries h)
 
     run-spun : (limit n : ℕ) (trace : List PredicateControlStep) → n + limit ≤ entries

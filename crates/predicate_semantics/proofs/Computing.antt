@@ -6,7 +6,7 @@ use Rattle.riscv_decode.specs.Rows as Rows
 use Rattle.riscv_decode.specs.Decode as Decode
 use Rattle.lane_word.specs.Word as Word
 use Rattle.predicate_semantics.specs.Choice as Choice
-use Rattle.predicate_semantics.specs.Meaning as Meaning
+use Rattle.predicate_action.specs.Meaning as Meaning
 use Rattle.predicate_semantics.specs.Program as Program
 use Rattle.predicate_semantics.specs.State as State
 use Rattle.predicate_semantics.specs.Memory as Memory
@@ -28,11 +28,11 @@ unfolding Word.unknown Word.constant Word.domain Word.zip Word.unary Word.binary
 words = tt
 
 unfoldable pub running : Unit {0}
-unfolding Choice.choose Meaning.meaning Program.initial Program.sized Program.inMemory Program.placed State.fill State.atStart State.assign State.recorded State.advance State.apply Memory.byteAt Memory.laneBytes Memory.put Memory.read Memory.write Refusal._>>=_ Refusal.refuse Refusal.require Refusal.found Lane.inside Lane.on Lane.lanes Lane.memoryOf Lane.agreed Lane.startTests Lane.roomFor Lane.decodeWord Lane.expandHalfword Lane.access Lane.accessAgreed Lane.fetchFour Lane.fetch Lane.eventAt Lane.reg Lane.operand Lane.execute Lane.look Lane.step Lane.events Lane.finishEvents Lane.finish Lane.run Lane.begin Lane.start Lane.laneRun
+unfolding Choice.choose Meaning.meaning Program.initial Program.sized Program.inMemory Program.symbolsPlaced State.fill State.atStart State.assign State.recorded State.advanced State.apply Memory.byteAt Memory.laneBytes Memory.put Memory.read Memory.write Refusal._>>=_ Refusal.refuse Refusal.require Refusal.found Lane.inside Lane.on Lane.laneCount Lane.memoryOf Lane.agreed Lane.startTests Lane.roomFor Lane.decodeWord Lane.expandHalfword Lane.access Lane.accessAgreed Lane.fetchFour Lane.fetch Lane.eventAt Lane.reg Lane.execute Lane.attempt Lane.step Lane.events Lane.finishEvents Lane.finish Lane.run Lane.begin Lane.start Lane.laneRun
 running = tt
 
 unfoldable pub scalar : Unit {0}
-unfolding Scalar._>>=_ Scalar.require Scalar.put Scalar.read Scalar.write Scalar.inside Scalar.startTests Scalar.roomFor Scalar.access Scalar.eventAt Scalar.reg Scalar.operand Scalar.decodeWord Scalar.expandHalfword Scalar.fetchFour Scalar.fetch Scalar.execute Scalar.look Scalar.step Scalar.events Scalar.finish Scalar.run Scalar.start Scalar.scalarRun
+unfolding Scalar._>>=_ Scalar.require Scalar.put Scalar.read Scalar.write Scalar.inside Scalar.startTests Scalar.roomFor Scalar.access Scalar.eventAt Scalar.reg Scalar.decodeWord Scalar.expandHalfword Scalar.fetchFour Scalar.fetch Scalar.execute Scalar.attempt Scalar.step Scalar.events Scalar.finish Scalar.run Scalar.start Scalar.scalarRun
 scalar = tt
 
 unfoldable pub standing : Unit {0}

@@ -12,18 +12,18 @@ use Rattle.lane_word.specs.Word as Word
 use Rattle.predicate_semantics.specs.Program.{Program, stop}
 use Rattle.predicate_semantics.specs.Choice.{choose}
 use Rattle.predicate_semantics.specs.Refusal.{Tested, passed, refused, ifPassed}
-use Rattle.predicate_semantics.specs.Lane.{LaneState, Setup, on, lanes, memoryOf, step, run, after, begin, start, reached, laneRun}
+use Rattle.predicate_semantics.specs.Lane.{LaneState, Setup, on, laneCount, memoryOf, step, run, after, begin, start, reached, laneRun}
 use Rattle.predicate_semantics.specs.Scalar.{ScalarState}
 use Rattle.predicate_semantics.specs.Standing.{setup, standing, standingLaneRun, standingScalarRun}
-use Rattle.predicate_semantics.specs.Guarantee.{Follows, PrefixGuarantee, CompletedGuarantee, AcceptanceGuarantee, Guarantee}
+use Rattle.predicate_semantics.specs.Guarantee.{SameAsLane, PrefixGuarantee, CompletedGuarantee, AcceptanceGuarantee, Guarantee}
 use Rattle.predicate_semantics.proofs.Sim.{answered}
 use Rattle.predicate_semantics.proofs.Laws.{run-stop, run-out, run-next, run-refused, step-steps}
 use Rattle.predicate_semantics.proofs.Steps.{Related, related, at-reg, sim-reached, sim-laneRun}
 
 module _ (p : Program) (l : Setup) where
   followed : (k input : ℕ) → getElem? (l .inputs) k ≡ some input → {s : LaneState} {t : ScalarState}
-      → Related (p .image) (l .inputs) k s t → Follows p l k s t
-  unfolding lanes memoryOf
+      → Related (p .image) (l .inputs) k s t → SameAsLane p l k s t
+  unfolding laneCount memoryOf
   followed k input here (related {s} {rs} {m} regs mem) = record {
     pc = refl;
     steps = refl;

@@ -12,10 +12,10 @@ use Rattle.riscv_decode.specs.declared.Fetched.{Fetched}
 use Rattle.lane_word.specs.declared.LaneWord.{LaneWord}
 use Rattle.predicate_semantics.specs.Choice.{choose}
 use Rattle.predicate_semantics.specs.Program.{Program, stop}
-use Rattle.predicate_semantics.specs.State.{State, Effect, goes, sets, stores, advance, apply}
+use Rattle.predicate_semantics.specs.State.{State, Effect, goes, sets, stores, advanced, apply}
 use Rattle.predicate_semantics.specs.Memory.{Written, put, write}
 use Rattle.predicate_semantics.specs.Refusal.{Refusal, passed, refused, refuse, require}
-use Rattle.predicate_semantics.specs.Lane.{LaneState, Setup, on, run, look, step, finish}
+use Rattle.predicate_semantics.specs.Lane.{LaneState, Setup, on, run, attempt, step, finish}
 use Rattle.predicate_semantics.proofs.Sim.{Sim, agrees, bind-lane}
 
 told : {A B : Type 0} {R : A → B → Type 0} {a : A} {b : B} → Sim R (passed a) (some b) → R a b
@@ -43,7 +43,7 @@ module _ (p : Program) (l : Setup) where
 -- a completed step adds 1 to the steps
 pub steps-apply : {W M : Type 0} (write : M → ℕ → ℕ → W → M) (c : ℕ) (s : State W M) (f : Fetched) (e : Effect W)
     → (apply write c s f e) .steps ≡ suc (s .steps)
-unfolding apply advance
+unfolding apply advanced
 steps-apply write c s f (goes next) = refl
 steps-apply write c s f (sets rd value next) = refl
 steps-apply write c s f (stores a n value next) = refl
@@ -53,7 +53,7 @@ unfolding step
 step-steps p l s t e = told (rw e at sim-steps)
   where
     sim-steps : Sim (λ u (_ : Unit {0}). u .steps ≡ suc (s .steps)) (step p l s) (some tt)
-    sim-steps = bind-lane (look p l s) (λ seen. bind-lane (require 14 _) (λ _. agrees (steps-apply write _ s (seen .fetched) (seen .effect))))
+    sim-steps = bind-lane (attempt p l s) (λ seen. bind-lane (require 14 _) (λ _. agrees (steps-apply write _ s (seen .fetched) (seen .effect))))
 
 -- written bytes never get fewer, so a store that fits at its end fits at each of its bytes
 pub put-grows : (a : ℕ) (b : LaneWord) (ws : List Written) → length ws ≤ length (put a b ws)

@@ -3,6 +3,7 @@ pub mod Lists
 pub mod Sim
 pub mod Values
 pub mod Steps
+pub mod Sources
 pub mod Guarantee
 pub mod Laws
 pub mod Computing

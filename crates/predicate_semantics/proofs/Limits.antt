@@ -141,7 +141,7 @@ module _ (p : Program) where
   scalar-step-steps : (s t : ScalarState) → Scalar.step p s ≡ some t → t .steps ≡ suc (s .steps)
   unfolding Scalar.step
   scalar-step-steps s t q =
-      let seen = through (Scalar.look p s) q in
+      let seen = through (Scalar.attempt p s) q in
       let made : apply Scalar.write (p .symbols .«event_count») s (seen .0 .fetched) (seen .0 .effect) ≡ t = cc (seen .2) in
       ap (λ (x : ScalarState). x .steps) (sym made) ∙ steps-apply Scalar.write _ s (seen .0 .fetched) (seen .0 .effect)
 

@@ -18,16 +18,18 @@ use Rattle.riscv_decode.specs.declared.Operation.the-variants.{Lui, Auipc, Jal,
 use Rattle.lane_word.specs.declared.LaneWord.{LaneWord}
 use Rattle.lane_word.specs.declared.Uniform.the-variants.{Value, Unknown, Uneven}
 use Rattle.lane_word.specs.Word.{unknown, constant, domain, zip, unary, binary, every, uniformOf, inputs}
+use Rattle.predicate_action.specs.declared.Action.{Action}
+use Rattle.predicate_action.specs.declared.Action.the-variants.{Nothing, Literal, Compute, ComputeImmediate, Jump, JumpTo, Branch, Load, Store}
+use Rattle.predicate_action.specs.Meaning.{meaning}
 use Rattle.predicate_semantics.specs.declared.CompiledMmioEvent.{CompiledMmioEvent}
 use Rattle.predicate_semantics.specs.declared.PredicateControlStep.{PredicateControlStep}
 use Rattle.predicate_semantics.specs.declared.Rv32SymbolLayout.{Rv32SymbolLayout}
 use Rattle.predicate_semantics.specs.Choice.{choose}
-use Rattle.predicate_semantics.specs.Meaning.{Meaning, nothing, literal, compute, jump, jumpTo, branch, load, store, meaning}
-use Rattle.predicate_semantics.specs.Program.{Program, memoryEnd, stop, stopWord, imageEnd, sized, inMemory, placed}
-use Rattle.predicate_semantics.specs.State.{Result, Effect, goes, sets, stores, Looked, fill, atStart, recorded, advance, apply}
+use Rattle.predicate_semantics.specs.Program.{Program, memoryEnd, stop, stopWord, imageEnd, sized, inMemory, symbolsPlaced}
+use Rattle.predicate_semantics.specs.State.{Result, Effect, goes, sets, stores, Attempted, fill, atStart, recorded, advanced, apply}
 use Rattle.predicate_semantics.specs.Memory.{Written, LaneBytes, put, read, write}
 use Rattle.predicate_semantics.specs.Refusal.{Refusal, Tested, passed, refused, refuse, _>>=_}
-use Rattle.predicate_semantics.specs.Lane.{LaneState, Setup, Ended, on, inside, lanes, memoryOf, agreedAs, agreed, reg, access, accessAgreed, startTests, roomFor, decodeWord, expandHalfword, fetchFour, fetch, eventAt, execute, look, step, events, finishEvents, finish, run, begin, start, laneRun}
+use Rattle.predicate_semantics.specs.Lane.{LaneState, Setup, Ended, on, inside, laneCount, memoryOf, agreedAs, agreed, reg, access, accessAgreed, startTests, roomFor, decodeWord, expandHalfword, fetchFour, fetch, eventAt, execute, attempt, step, events, finishEvents, finish, run, begin, start, laneRun}
 use Rattle.predicate_semantics.specs.Standing.{standingCore, standing, setup, standingLaneRun}
 use Rattle.predicate_semantics.specs.RecordRules.{Chain, Words, ExpandsToWords, Completed, Accepted, TakesStep, proper}
 use Rattle.predicate_semantics.proofs.Lists.{both-left, both-right}
@@ -75,15 +77,16 @@ either-fits true x y h g = h
 either-fits false x y h g = g
 
 -- where a jump or a branch leads
-abbrev Leads : Meaning → Type 0
-Leads nothing = Unit {0}
-Leads (literal rd v) = Unit {0}
-Leads (compute rd f a b) = Unit {0}
-Leads (jump rd to) = to < 2 ^ 32
-Leads (jumpTo rd a offset) = Unit {0}
-Leads (branch f a b to) = to < 2 ^ 32
-Leads (load rd a offset n extend) = Unit {0}
-Leads (store a b offset n) = Unit {0}
+abbrev Leads : Action → Type 0
+Leads Nothing = Unit {0}
+Leads (Literal rd v) = Unit {0}
+Leads (Compute rd f a b) = Unit {0}
+Leads (ComputeImmediate rd f a n) = Unit {0}
+Leads (Jump rd to) = to < 2 ^ 32
+Leads (JumpTo rd a offset) = Unit {0}
+Leads (Branch f a b to) = to < 2 ^ 32
+Leads (Load rd a offset n e) = Unit {0}
+Leads (Store a b offset n) = Unit {0}
 
 meaning-leads : (o : Operation) (pc : ℕ) → Leads (meaning o pc)
 unfolding meaning
@@ -154,8 +157,8 @@ module _ (p : Program) (l : Setup) where
       (ltb→lt _ _ (both-left some few t), leb→le _ _ (both-right some few t))
 
   -- no refusal 2
-  entry-fits : T (placed (p .symbols)) → p .symbols .entry < 2 ^ 32
-  unfolding placed inMemory
+  entry-fits : T (symbolsPlaced (p .symbols)) → p .symbols .entry < 2 ^ 32
+  unfolding symbolsPlaced inMemory
   entry-fits t =
       let e : ℕ = p .symbols .entry in
       let in-memory : Bool = leb imageBase e && ltb e memoryEnd in
@@ -201,8 +204,8 @@ module _ (p : Program) (l : Setup) where
 
   kept-advance : {s : LaneState} (f : Fetched) (next : ℕ) (registers : List LaneWord) (ws : List Written) (locations : List ℕ)
       → Kept s → Short f → s .steps < l .entries → next < 2 ^ 32 → Stored ws → length locations ≤ suc (length (s .locations))
-      → Kept (advance s f next registers ws locations)
-  unfolding advance
+      → Kept (advanced s f next registers ws locations)
+  unfolding advanced
   kept-advance {s} f next registers ws locations k b e n stored few = record {
     fits = k .fits;
     small = n;
@@ -274,33 +277,34 @@ module _ (p : Program) (l : Setup) where
       (λ _. bind (always-accessAgreed 1 m 4 pc tt) (λ word h. always-decodeWord steps word 4 (inr refl) (λ x. h)))
       (λ _. bind (always-found 8 (p .core .expand half) tt) (λ word e. always-decodeWord steps word 2 (inl refl) (λ x. x half word e))))
 
-  always-execute : (s : LaneState) (next : ℕ) (d : Meaning) → next < 2 ^ 32 → Leads d → Always (Clear s) (execute p l s next d)
+  always-execute : (s : LaneState) (next : ℕ) (d : Action) → next < 2 ^ 32 → Leads d → Always (Clear s) (execute p l s next d)
   unfolding execute proper unary
-  always-execute s next nothing h g = gives h
-  always-execute s next (literal rd v) h g = gives h
-  always-execute s next (compute rd f a b) h g = gives h
-  always-execute s next (jump rd to) h g = gives g
-  always-execute s next (jumpTo rd a offset) h g =
+  always-execute s next Nothing h g = gives h
+  always-execute s next (Literal rd v) h g = gives h
+  always-execute s next (Compute rd f a b) h g = gives h
+  always-execute s next (ComputeImmediate rd f a n) h g = gives h
+  always-execute s next (Jump rd to) h g = gives g
+  always-execute s next (JumpTo rd a offset) h g =
       bind (always-agreed 2 _ tt) (λ to e.
       bind (always-require 10 _ tt) (λ u t. gives (rw e (first-target offset ((reg p l s a) .values)))))
-  always-execute s next (branch f a b to) h g = bind (always-agreed 5 _ tt) (λ direction _. gives (either-fits (eqb direction 0) next to h g))
-  always-execute s next (load rd a offset n extend) h g =
+  always-execute s next (Branch f a b to) h g = bind (always-agreed 5 _ tt) (λ direction _. gives (either-fits (eqb direction 0) next to h g))
+  always-execute s next (Load rd a offset n e) h g =
       bind (always-agreed 3 _ tt) (λ address _.
       bind (always-access (memoryOf p l s) n address) (λ w _. gives h))
-  always-execute s next (store a b offset n) h g =
+  always-execute s next (Store a b offset n) h g =
       bind (always-agreed 4 _ tt) (λ address _.
       bind (always-roomFor (imageEnd p) (l .rows) address n _) (λ u room. gives (h, room .0, room .1, room .2)))
 
-  always-look : (s : LaneState) → Always (λ (seen : Looked LaneWord). Short (seen .fetched) × Clear s (seen .effect)) (look p l s)
-  unfolding look
-  always-look s =
+  always-attempt : (s : LaneState) → Always (λ (seen : Attempted LaneWord). Short (seen .fetched) × Clear s (seen .effect)) (attempt p l s)
+  unfolding attempt
+  always-attempt s =
       bind (always-fetch _ _ _) (λ fetched b.
       bind (always-execute s _ _ (omega arith) (meaning-leads (fetched .operation) (s .pc))) (λ effect c. gives (b, c)))
 
   always-step : (s : LaneState) → Kept s → Always (λ t. Kept t × (t .steps ≡ suc (s .steps))) (step p l s)
   unfolding step proper
   always-step s k =
-      bind (always-look s) (λ seen h.
+      bind (always-attempt s) (λ seen h.
       bind (always-require 14 _ tt) (λ u t.
       gives (kept-apply (seen .fetched) (seen .effect) k (h .0) (h .1) (ltb→lt _ _ t), steps-apply write _ s (seen .fetched) (seen .effect))))
 
@@ -389,8 +393,8 @@ module _ (p : Program) (l : Setup) where
     small = small;
     traced = begin-traced;
     stored = record {
-      least = omega (arith, four (constant (lanes p l) stopWord));
-      most = omega (arith, four (constant (lanes p l) stopWord));
+      least = omega (arith, four (constant (laneCount p l) stopWord));
+      most = omega (arith, four (constant (laneCount p l) stopWord));
       distinct = distinct-write 4 stop _ (omega arith) (omega arith) (distinct-none _ _);
     };
     located = omega arith;
@@ -449,7 +453,7 @@ module _ (p : Program) (l : Setup) where
 -- x10 is the input: at entry = stop the return value is not uniform
 uneven : (image : List ℕ) (symbols : Rv32SymbolLayout) (rows entries : ℕ)
     → finish (standing image symbols) (setup rows entries) (begin (standing image symbols) (setup rows entries)) ≡ refuse 7 6
-unfolding finish begin standing setup standingCore fill atStart choose reg agreed every uniformOf domain inputs refuse _>>=_ lanes constant unknown
+unfolding finish begin standing setup standingCore fill atStart choose reg agreed every uniformOf domain inputs refuse _>>=_ laneCount constant unknown
 uneven image symbols rows entries = refl
 
 always-on : {P : LaneState → Type 0} {Q : Result → Type 0} (s : LaneState) {m : Tested LaneState} (f : LaneState → Ended)

@@ -8,19 +8,22 @@ use lib.Dec.{leb, eqb}
 use lib.ListN.{getElem?, length}
 use Rattle.riscv32imc.specs.Arithmetic.{add, target}
 use Rattle.riscv32imc.specs.Constants.{imageBase}
+use Rattle.riscv32imc.specs.Value.{valueOf}
 use Rattle.riscv_decode.specs.declared.Fetched.{Fetched}
 use Rattle.lane_word.specs.declared.LaneWord.{LaneWord}
 use Rattle.lane_word.specs.Word.{constant}
+use Rattle.predicate_action.specs.declared.Action.{Action}
+use Rattle.predicate_action.specs.declared.Action.the-variants.{Nothing, Literal, Compute, ComputeImmediate, Jump, JumpTo, Branch, Load, Store}
+use Rattle.predicate_action.specs.Meaning.{extensionOf}
 use Rattle.predicate_semantics.specs.declared.CompiledMmioEvent.{CompiledMmioEvent}
 use Rattle.predicate_semantics.specs.declared.Rv32SymbolLayout.{Rv32SymbolLayout}
 use Rattle.predicate_semantics.specs.Choice.{choose}
-use Rattle.predicate_semantics.specs.Meaning.{Operand, register, immediate, Meaning, nothing, literal, compute, jump, jumpTo, branch, load, store}
 use Rattle.predicate_semantics.specs.Program.{Program, memoryEnd, stop, stopWord, stackPointer}
-use Rattle.predicate_semantics.specs.State.{Effect, goes, sets, stores, Looked, advance, apply}
+use Rattle.predicate_semantics.specs.State.{Effect, goes, sets, stores, Attempted, advanced, apply}
 use Rattle.predicate_semantics.specs.Memory.{Written, LaneBytes, laneBytes}
 use Rattle.predicate_semantics.specs.Memory as Memory
 use Rattle.predicate_semantics.specs.Refusal.{Tested, refuse, require, ifPassed}
-use Rattle.predicate_semantics.specs.Lane.{LaneState, Setup, lanes, reg, operand}
+use Rattle.predicate_semantics.specs.Lane.{LaneState, Setup, laneCount, reg}
 use Rattle.predicate_semantics.specs.Lane as Lane
 use Rattle.predicate_semantics.specs.Scalar.{Bytes, ScalarState}
 use Rattle.predicate_semantics.specs.Scalar as Scalar
@@ -55,7 +58,7 @@ module _ (n k : ℕ) where
     same-sets : (rd : ℕ) {w : LaneWord} {v : ℕ} (next : ℕ) → At n k w v → Same (sets rd w next) (sets rd v next)
     same-stores : (a b : ℕ) {w : LaneWord} {v : ℕ} (next : ℕ) → At n k w v → Same (stores a b w next) (stores a b v next)
 
-  pub data Seen : Looked LaneWord → Looked ℕ → Type 0 where
+  pub data Seen : Attempted LaneWord → Attempted ℕ → Type 0 where
     seen : (f : Fetched) {e : Effect LaneWord} {d : Effect ℕ} → Same e d → Seen (record { fetched = f; effect = e }) (record { fetched = f; effect = d })
 
 module _ (p : Program) (l : Setup) (k input : ℕ) (here : getElem? (l .inputs) k ≡ some input) where
@@ -92,63 +95,62 @@ module _ (p : Program) (l : Setup) (k input : ℕ) (here : getElem? (l .inputs) 
     sim-decodeWord word n = bind-same (sim-found 9 _) (λ operation. agrees refl)
 
     pub sim-fetch : Sim _≡_ (Lane.fetch (l .inputs) (p .core) (Lane.memoryOf p l s) (s .steps) (s .pc)) (Scalar.fetch p (view s rs m))
-    unfolding Lane.fetch Scalar.fetch Lane.fetchFour Scalar.fetchFour Lane.expandHalfword Scalar.expandHalfword Lane.memoryOf lanes
+    unfolding Lane.fetch Scalar.fetch Lane.fetchFour Scalar.fetchFour Lane.expandHalfword Scalar.expandHalfword Lane.memoryOf laneCount
     sim-fetch = bind-same (sim-accessAgreed (s .memory) m mem 1 2 _) (λ half.
         sim-choose (eqb (half % 4) 3)
         (λ _. bind-same (sim-accessAgreed (s .memory) m mem 1 4 _) (λ word. sim-decodeWord word 4))
         (λ _. bind-same (sim-found 8 (p .core .expand half)) (λ word. sim-decodeWord word 2)))
 
     pub at-reg : (i : ℕ) → At (length (l .inputs)) k (reg p l s i) (Scalar.reg (view s rs m) i)
-    unfolding reg Scalar.reg lanes
+    unfolding reg Scalar.reg laneCount
     at-reg i = regs-at regs i
 
-    at-operand : (o : Operand) → At (length (l .inputs)) k (operand p l s o) (Scalar.operand (view s rs m) o)
-    unfolding operand Scalar.operand lanes
-    at-operand (register i) = at-reg i
-    at-operand (immediate n) = at-constant (p .image) (l .inputs) k input here n
+    whole : (v : ℕ) → At (length (l .inputs)) k (constant (length (l .inputs)) v) v
+    whole v = at-constant (p .image) (l .inputs) k input here v
 
-    pub sim-execute : (next : ℕ) (d : Meaning)
+    pub sim-execute : (next : ℕ) (d : Action)
         → Sim (Same (length (l .inputs)) k) (Lane.execute p l s next d) (Scalar.execute p (view s rs m) next d)
-    unfolding Lane.execute Scalar.execute Lane.memoryOf lanes
-    sim-execute next nothing = agrees (same-goes next)
-    sim-execute next (literal rd v) = agrees (same-sets rd next (at-constant (p .image) (l .inputs) k input here v))
-    sim-execute next (compute rd f a b) = agrees (same-sets rd next (at-binary f (at-reg a) (at-operand b)))
-    sim-execute next (jump rd to) = agrees (same-sets rd to (at-constant (p .image) (l .inputs) k input here next))
-    sim-execute next (jumpTo rd a offset) =
+    unfolding Lane.execute Scalar.execute Lane.memoryOf laneCount
+    sim-execute next Nothing = agrees (same-goes next)
+    sim-execute next (Literal rd v) = agrees (same-sets rd next (whole v))
+    sim-execute next (Compute rd f a b) = agrees (same-sets rd next (at-binary (valueOf f) (at-reg a) (at-reg b)))
+    sim-execute next (ComputeImmediate rd f a n) = agrees (same-sets rd next (at-binary (valueOf f) (at-reg a) (whole n)))
+    sim-execute next (Jump rd to) = agrees (same-sets rd to (whole next))
+    sim-execute next (JumpTo rd a offset) =
         bind-value _ (sim-agreed 2 (at-unary (λ v. target v offset) (at-reg a)))
-        (bind-same (sim-require 10 _) (λ _. agrees (same-sets rd _ (at-constant (p .image) (l .inputs) k input here next))))
-    sim-execute next (branch f a b to) =
-        bind-value _ (sim-agreed 5 (at-binary f (at-reg a) (at-reg b))) (agrees (same-goes _))
-    sim-execute next (load rd a offset n extend) =
+        (bind-same (sim-require 10 _) (λ _. agrees (same-sets rd _ (whole next))))
+    sim-execute next (Branch f a b to) =
+        bind-value _ (sim-agreed 5 (at-binary (valueOf f) (at-reg a) (at-reg b))) (agrees (same-goes _))
+    sim-execute next (Load rd a offset n e) =
         bind-value _ (sim-agreed 3 (at-unary (λ v. add v offset) (at-reg a)))
-        (bind (sim-access (s .memory) m mem n _) (λ w v h. agrees (same-sets rd next (at-unary extend h))))
-    sim-execute next (store a b offset n) =
+        (bind (sim-access (s .memory) m mem n _) (λ w v h. agrees (same-sets rd next (at-unary (extensionOf e) h))))
+    sim-execute next (Store a b offset n) =
         bind-value _ (sim-agreed 4 (at-unary (λ v. add v offset) (at-reg a)))
         (bind-same (sim-roomFor _ _ _ n _) (λ _. agrees (same-stores _ n next (at-reg b))))
 
-    pub sim-look : Sim (Seen (length (l .inputs)) k) (Lane.look p l s) (Scalar.look p (view s rs m))
-    unfolding Lane.look Scalar.look
-    sim-look =
+    pub sim-attempt : Sim (Seen (length (l .inputs)) k) (Lane.attempt p l s) (Scalar.attempt p (view s rs m))
+    unfolding Lane.attempt Scalar.attempt
+    sim-attempt =
         bind-same sim-fetch (λ fetched.
         bind (sim-execute _ _) (λ e d h. agrees (seen fetched h)))
 
     apply-related : (c : ℕ) (f : Fetched) {e : Effect LaneWord} {d : Effect ℕ} → Same (length (l .inputs)) k e d
         → Related (p .image) (l .inputs) k (apply Memory.write c s f e) (apply Scalar.write c (view s rs m) f d)
-    unfolding apply advance
+    unfolding apply advanced
     apply-related c f (same-goes n) = related regs mem
     apply-related c f (same-sets rd n h) = related (regs-assign regs rd h) mem
     apply-related c f (same-stores a z n h) = related regs (mem-write (p .image) (l .inputs) k input here z _ _ mem a _ _ h)
 
-    seen-related : (c : ℕ) {a : Looked LaneWord} {b : Looked ℕ} → Seen (length (l .inputs)) k a b
+    seen-related : (c : ℕ) {a : Attempted LaneWord} {b : Attempted ℕ} → Seen (length (l .inputs)) k a b
         → Related (p .image) (l .inputs) k (apply Memory.write c s (a .fetched) (a .effect)) (apply Scalar.write c (view s rs m) (b .fetched) (b .effect))
     seen-related c (seen f h) = apply-related c f h
 
     pub sim-step : Sim (Related (p .image) (l .inputs) k) (Lane.step p l s) (Scalar.step p (view s rs m))
     unfolding Lane.step Scalar.step
-    sim-step = bind sim-look (λ a b h. bind-lane (require 14 _) (λ _. agrees (seen-related _ h)))
+    sim-step = bind sim-attempt (λ a b h. bind-lane (require 14 _) (λ _. agrees (seen-related _ h)))
 
     pub sim-finish : Sim _≡_ (Lane.finish p l s) (Scalar.finish p (view s rs m))
-    unfolding Lane.finish Lane.finishEvents Scalar.finish Lane.memoryOf lanes
+    unfolding Lane.finish Lane.finishEvents Scalar.finish Lane.memoryOf laneCount
     sim-finish =
         bind-value _ (sim-agreed 6 (at-reg 10))
         (bind-same (sim-accessAgreed (s .memory) m mem 7 4 _) (λ count.
@@ -189,7 +191,7 @@ module _ (p : Program) (l : Setup) (k input : ℕ) (here : getElem? (l .inputs) 
       (λ _. bind-ended s _ (sim-step s rs m regs mem) (λ a b r. sim-run n r))
 
   pub sim-start : (others : ℕ → ℕ) → Sim (Related (p .image) (l .inputs) k) (Lane.start p l) (Scalar.start p input others)
-  unfolding Lane.start Scalar.start Lane.begin lanes
+  unfolding Lane.start Scalar.start Lane.begin laneCount
   sim-start others =
       bind-same (sim-startTests _ _ _) (λ _. agrees (related
       (regs-fill _ 0 _ _ (at-start _ _ _ _ _ _ _ _ _ _ (whole 0) (whole stop) (whole stackPointer) (at-domain (p .image) (l .inputs) k input here) (λ j. at-unknown _ k _)))

@@ -18,19 +18,19 @@ use Rattle.predicate_semantics.specs.Lane as Lane
 use Rattle.predicate_semantics.specs.Standing.{lastInput, standingLaneRun, standingScalarRun}
 
 -- if the lane word is known, its lane k holds v
-abbrev pub Holds : ℕ → LaneWord → ℕ → Type 0
-Holds k w v = T (w .known) → getElem? (w .values) k ≡ some v
+abbrev pub KnownLane : ℕ → LaneWord → ℕ → Type 0
+KnownLane k w v = T (w .known) → getElem? (w .values) k ≡ some v
 
 module _ (p : Program) (l : Setup) where
   -- a scalar state is where lane k of a lane state is: the same program counter, steps, trace and locations, and in each register
   -- and each byte that is known, lane k's value
-  pub record Follows (k : ℕ) (s : LaneState) (t : ScalarState) : Type 0 where
+  pub record SameAsLane (k : ℕ) (s : LaneState) (t : ScalarState) : Type 0 where
     pub pc : t .pc ≡ s .pc
     pub steps : t .steps ≡ s .steps
     pub trace : t .trace ≡ s .trace
     pub locations : t .locations ≡ s .locations
-    pub registers : (i : ℕ) → Holds k (Lane.reg p l s i) (Scalar.reg t i)
-    pub memory : (a : ℕ) → Holds k (Lane.memoryOf p l s a) (t .memory a)
+    pub registers : (i : ℕ) → KnownLane k (Lane.reg p l s i) (Scalar.reg t i)
+    pub memory : (a : ℕ) → KnownLane k (Lane.memoryOf p l s a) (t .memory a)
 
   -- After n completed steps of the lane run, the scalar run of each lane's input, whatever the other registers hold at the start,
   -- has completed n steps too, and is where the lane is.
@@ -38,7 +38,7 @@ module _ (p : Program) (l : Setup) where
   PrefixGuarantee =
       (n : ℕ) (s : LaneState) → Lane.reached p l n ≡ some s
       → (k input : ℕ) → getElem? (l .inputs) k ≡ some input
-      → (others : ℕ → ℕ) → (t : ScalarState) × (Scalar.reached p n input others ≡ some t) × Follows k s t
+      → (others : ℕ → ℕ) → (t : ScalarState) × (Scalar.reached p n input others ≡ some t) × SameAsLane k s t
 
   -- Where the lane run ends once it has started, accepted or refused, the same holds of the steps that it completed.
   abbrev pub CompletedGuarantee : ℕ → Type 0
@@ -48,7 +48,7 @@ module _ (p : Program) (l : Setup) where
       → (others : ℕ → ℕ)
       → (t : ScalarState)
       × (Scalar.reached p ((laneRun p l limit) .state .steps) input others ≡ some t)
-      × Follows k ((laneRun p l limit) .state) t
+      × SameAsLane k ((laneRun p l limit) .state) t
 
   -- Whenever the lane run accepts, the scalar run of each lane's input, whatever the other registers hold at the start,
   -- reaches stop and answers the same.

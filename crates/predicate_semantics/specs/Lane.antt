@@ -7,18 +7,21 @@ use lib.Dec.{leb, ltb, eqb}
 use lib.ListN.{getD, length}
 use Rattle.riscv32imc.specs.Arithmetic.{add, target}
 use Rattle.riscv32imc.specs.Constants.{imageBase}
+use Rattle.riscv32imc.specs.Value.{valueOf}
 use Rattle.riscv_decode.specs.declared.Fetched.{Fetched}
 use Rattle.lane_word.specs.declared.LaneWord.{LaneWord}
 use Rattle.lane_word.specs.declared.Uniform.{Uniform}
 use Rattle.lane_word.specs.declared.Uniform.the-variants.{Value, Unknown, Uneven}
 use Rattle.lane_word.specs.Word.{unknown, constant, domain, unary, binary, uniformOf}
+use Rattle.predicate_action.specs.declared.Action.{Action}
+use Rattle.predicate_action.specs.declared.Action.the-variants.{Nothing, Literal, Compute, ComputeImmediate, Jump, JumpTo, Branch, Load, Store}
+use Rattle.predicate_action.specs.Meaning.{extensionOf, meaning}
 use Rattle.predicate_semantics.specs.declared.CompiledMmioEvent.{CompiledMmioEvent}
 use Rattle.predicate_semantics.specs.declared.PredicateTransducerExecution.{PredicateTransducerExecution}
 use Rattle.predicate_semantics.specs.declared.Rv32SymbolLayout.{Rv32SymbolLayout}
 use Rattle.predicate_semantics.specs.Choice.{choose}
-use Rattle.predicate_semantics.specs.Meaning.{Operand, register, immediate, Meaning, nothing, literal, compute, jump, jumpTo, branch, load, store, meaning}
-use Rattle.predicate_semantics.specs.Program.{Core, Program, memoryEnd, stop, stopWord, stackPointer, maxEvents, eventBytes, imageEnd, sized, placed}
-use Rattle.predicate_semantics.specs.State.{State, Result, Effect, goes, sets, stores, Looked, fill, atStart, apply}
+use Rattle.predicate_semantics.specs.Program.{Core, Program, memoryEnd, stop, stopWord, stackPointer, maxEvents, eventBytes, imageEnd, sized, symbolsPlaced}
+use Rattle.predicate_semantics.specs.State.{State, Result, Effect, goes, sets, stores, Attempted, fill, atStart, apply}
 use Rattle.predicate_semantics.specs.Memory.{Written, LaneBytes, laneBytes, read, write}
 use Rattle.predicate_semantics.specs.Refusal.{Tested, passed, refused, _>>=_, ifPassed, refuse, require, found}
 
@@ -57,7 +60,7 @@ inside a n = do
 unfoldable pub startTests : ℕ → Rv32SymbolLayout → ℕ → Tested (Unit {0})
 startTests size symbols rows = do
   _ ← require 1 (sized size)
-  _ ← require 2 (placed symbols)
+  _ ← require 2 (symbolsPlaced symbols)
   require 13 (leb 4 rows)
 
 -- a store at a known address: range, 11 below the image's end, 13 where the bytes then written are more than the rows
@@ -121,47 +124,43 @@ module _ (inputs : List ℕ) where
 
 module _ (p : Program) (l : Setup) where
   -- one lane for each input
-  unfoldable pub lanes : ℕ
-  lanes = length (l .inputs)
+  unfoldable pub laneCount : ℕ
+  laneCount = length (l .inputs)
 
   -- memory as the lanes see it
   unfoldable pub memoryOf : LaneState → LaneBytes
-  memoryOf s = laneBytes (p .image) lanes (s .memory)
+  memoryOf s = laneBytes (p .image) laneCount (s .memory)
 
   -- the lane word of a register
   unfoldable pub reg : LaneState → ℕ → LaneWord
-  reg s i = getD (s .registers) i (unknown lanes)
+  reg s i = getD (s .registers) i (unknown laneCount)
 
-  -- the lane word of a second operand
-  unfoldable pub operand : LaneState → Operand → LaneWord
-  operand s (register i) = reg s i
-  operand s (immediate n) = constant lanes n
-
-  -- "Loads and stores: address uniform, range, image, rows. JALR clears bit 0 before the uniform test, then refuses target 0."
-  unfoldable pub execute : LaneState → ℕ → Meaning → Tested (Effect LaneWord)
-  execute s next nothing = passed (goes next)
-  execute s next (literal rd v) = passed (sets rd (constant lanes v) next)
-  execute s next (compute rd f a b) = passed (sets rd (binary f (reg s a) (operand s b)) next)
-  execute s next (jump rd to) = passed (sets rd (constant lanes next) to)
-  execute s next (jumpTo rd a offset) = do
+  -- an action's tests, and what it then changes; next is the following instruction's address
+  unfoldable pub execute : LaneState → ℕ → Action → Tested (Effect LaneWord)
+  execute s next Nothing = passed (goes next)
+  execute s next (Literal rd v) = passed (sets rd (constant laneCount v) next)
+  execute s next (Compute rd f a b) = passed (sets rd (binary (valueOf f) (reg s a) (reg s b)) next)
+  execute s next (ComputeImmediate rd f a n) = passed (sets rd (binary (valueOf f) (reg s a) (constant laneCount n)) next)
+  execute s next (Jump rd to) = passed (sets rd (constant laneCount next) to)
+  execute s next (JumpTo rd a offset) = do
     to ← agreed 2 (unary (λ v. target v offset) (reg s a))
     _ ← require 10 (ltb 0 to)
-    passed (sets rd (constant lanes next) to)
-  execute s next (branch f a b to) = do
-    direction ← agreed 5 (binary f (reg s a) (reg s b))
+    passed (sets rd (constant laneCount next) to)
+  execute s next (Branch f a b to) = do
+    direction ← agreed 5 (binary (valueOf f) (reg s a) (reg s b))
     passed (goes (choose (eqb direction 0) (λ _. next) (λ _. to)))
-  execute s next (load rd a offset n extend) = do
+  execute s next (Load rd a offset n e) = do
     address ← agreed 3 (unary (λ v. add v offset) (reg s a))
     w ← access (l .inputs) (memoryOf s) n address
-    passed (sets rd (unary extend w) next)
-  execute s next (store a b offset n) = do
+    passed (sets rd (unary (extensionOf e) w) next)
+  execute s next (Store a b offset n) = do
     address ← agreed 4 (unary (λ v. add v offset) (reg s a))
     _ ← roomFor (imageEnd p) (l .rows) address n (length (write (s .memory) n address (reg s b)))
     passed (stores address n (reg s b) next)
 
   -- what the next step would do: its tests up to the trace space
-  unfoldable pub look : LaneState → Tested (Looked LaneWord)
-  look s = do
+  unfoldable pub attempt : LaneState → Tested (Attempted LaneWord)
+  attempt s = do
     fetched ← fetch (l .inputs) (p .core) (memoryOf s) (s .steps) (s .pc)
     effect ← execute s (add (s .pc) (fetched .length)) (meaning (fetched .operation) (s .pc))
     passed (record { fetched = fetched; effect = effect })
@@ -169,7 +168,7 @@ module _ (p : Program) (l : Setup) where
   -- "Last, the trace space."
   unfoldable pub step : LaneState → Tested LaneState
   step s = do
-    seen ← look s
+    seen ← attempt s
     _ ← require 14 (ltb (s .steps) (l .entries))
     passed (apply write (p .symbols .«event_count») s (seen .fetched) (seen .effect))
 
@@ -213,8 +212,8 @@ module _ (p : Program) (l : Setup) where
   begin = record {
     pc = p .symbols .entry;
     registers = fill (p .core .registers) 0
-        (atStart (constant lanes 0) (constant lanes stop) (constant lanes stackPointer) (domain (l .inputs)) (λ _. unknown lanes));
-    memory = write [] 4 stop (constant lanes stopWord);
+        (atStart (constant laneCount 0) (constant laneCount stop) (constant laneCount stackPointer) (domain (l .inputs)) (λ _. unknown laneCount));
+    memory = write [] 4 stop (constant laneCount stopWord);
     steps = 0;
     trace = [];
     locations = [];
@@ -240,13 +239,13 @@ module _ (p : Program) (l : Setup) where
 
   -- "lane operations 250 × steps"
   unfoldable pub laneOperations : LaneState → ℕ
-  laneOperations s = lanes * s .steps
+  laneOperations s = laneCount * s .steps
 
   -- an accepted run's numbers, as a record's first item has them
   unfoldable pub execution : LaneState → Result → PredicateTransducerExecution
   execution s r = record {
     «first_input» = getD (l .inputs) 0 0;
-    «lane_count» = lanes;
+    «lane_count» = laneCount;
     «return_value» = r .returnValue;
     «symbolic_transitions» = r .steps;
     «lane_value_operations» = laneOperations s;

@@ -1,6 +1,5 @@
 -- What is right: the meaning of the operations, the scalar run, the lane run, and what one promises of the other.
 pub mod Choice
-pub mod Meaning
 pub mod Program
 pub mod State
 pub mod Scalar

@@ -62,5 +62,5 @@ unfoldable pub inMemory : ℕ → Bool
 inMemory a = leb imageBase a && ltb a memoryEnd
 
 -- the three of them
-unfoldable pub placed : Rv32SymbolLayout → Bool
-placed s = inMemory (s .entry) && inMemory (s .«event_count») && inMemory (s .events)
+unfoldable pub symbolsPlaced : Rv32SymbolLayout → Bool
+symbolsPlaced s = inMemory (s .entry) && inMemory (s .«event_count») && inMemory (s .events)

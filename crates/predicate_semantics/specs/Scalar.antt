@@ -8,13 +8,16 @@ use lib.ListN.{getD, length}
 use Rattle.riscv32imc.specs.Arithmetic.{add, target}
 use Rattle.riscv32imc.specs.Bits.{join}
 use Rattle.riscv32imc.specs.Constants.{imageBase}
+use Rattle.riscv32imc.specs.Value.{valueOf}
 use Rattle.riscv_decode.specs.declared.Fetched.{Fetched}
+use Rattle.predicate_action.specs.declared.Action.{Action}
+use Rattle.predicate_action.specs.declared.Action.the-variants.{Nothing, Literal, Compute, ComputeImmediate, Jump, JumpTo, Branch, Load, Store}
+use Rattle.predicate_action.specs.Meaning.{extensionOf, meaning}
 use Rattle.predicate_semantics.specs.declared.CompiledMmioEvent.{CompiledMmioEvent}
 use Rattle.predicate_semantics.specs.declared.Rv32SymbolLayout.{Rv32SymbolLayout}
 use Rattle.predicate_semantics.specs.Choice.{choose}
-use Rattle.predicate_semantics.specs.Meaning.{Operand, register, immediate, Meaning, nothing, literal, compute, jump, jumpTo, branch, load, store, meaning}
-use Rattle.predicate_semantics.specs.Program.{Program, memoryEnd, stop, stopWord, stackPointer, maxEvents, eventBytes, initial, imageEnd, sized, placed}
-use Rattle.predicate_semantics.specs.State.{State, Result, Effect, goes, sets, stores, Looked, fill, atStart, apply}
+use Rattle.predicate_semantics.specs.Program.{Program, memoryEnd, stop, stopWord, stackPointer, maxEvents, eventBytes, initial, imageEnd, sized, symbolsPlaced}
+use Rattle.predicate_semantics.specs.State.{State, Result, Effect, goes, sets, stores, Attempted, fill, atStart, apply}
 
 -- a byte for each address
 abbrev pub Bytes : Type 0
@@ -59,7 +62,7 @@ inside a n = do
 unfoldable pub startTests : ℕ → Rv32SymbolLayout → Option (Unit {0})
 startTests size symbols = do
   _ ← require (sized size)
-  require (placed symbols)
+  require (symbolsPlaced symbols)
 
 -- a store at an address: range, not below the image's end; else 11
 unfoldable pub roomFor : ℕ → ℕ → ℕ → Option (Unit {0})
@@ -84,11 +87,6 @@ eventAt memory a location = do
 -- the value of a register
 unfoldable pub reg : ScalarState → ℕ → ℕ
 reg s i = getD (s .registers) i 0
-
--- the value of a second operand
-unfoldable pub operand : ScalarState → Operand → ℕ
-operand s (register i) = reg s i
-operand s (immediate n) = n
 
 module _ (p : Program) where
   -- a word of so many bytes, as its operation; else 9
@@ -115,27 +113,28 @@ module _ (p : Program) where
     half ← access (s .memory) 2 (s .pc)
     choose (eqb (half % 4) 3) (λ _. fetchFour s) (λ _. expandHalfword s half)
 
-  -- "does the operation on its own values"; next is the following instruction's address; else 4, 5, 10, 11
-  unfoldable pub execute : ScalarState → ℕ → Meaning → Option (Effect ℕ)
-  execute s next nothing = some (goes next)
-  execute s next (literal rd v) = some (sets rd v next)
-  execute s next (compute rd f a b) = some (sets rd (f (reg s a) (operand s b)) next)
-  execute s next (jump rd to) = some (sets rd next to)
-  execute s next (jumpTo rd a offset) = do
+  -- an action on this run's own values; next is the following instruction's address; else 4, 5, 10, 11
+  unfoldable pub execute : ScalarState → ℕ → Action → Option (Effect ℕ)
+  execute s next Nothing = some (goes next)
+  execute s next (Literal rd v) = some (sets rd v next)
+  execute s next (Compute rd f a b) = some (sets rd (valueOf f (reg s a) (reg s b)) next)
+  execute s next (ComputeImmediate rd f a n) = some (sets rd (valueOf f (reg s a) n) next)
+  execute s next (Jump rd to) = some (sets rd next to)
+  execute s next (JumpTo rd a offset) = do
     _ ← require (ltb 0 (target (reg s a) offset))
     some (sets rd next (target (reg s a) offset))
-  execute s next (branch f a b to) =
-      some (goes (choose (eqb (f (reg s a) (reg s b)) 0) (λ _. next) (λ _. to)))
-  execute s next (load rd a offset n extend) = do
+  execute s next (Branch f a b to) =
+      some (goes (choose (eqb (valueOf f (reg s a) (reg s b)) 0) (λ _. next) (λ _. to)))
+  execute s next (Load rd a offset n e) = do
     v ← access (s .memory) n (add (reg s a) offset)
-    some (sets rd (extend v) next)
-  execute s next (store a b offset n) = do
+    some (sets rd (extensionOf e v) next)
+  execute s next (Store a b offset n) = do
     _ ← roomFor (imageEnd p) (add (reg s a) offset) n
     some (stores (add (reg s a) offset) n (reg s b) next)
 
   -- what the next step would do
-  unfoldable pub look : ScalarState → Option (Looked ℕ)
-  look s = do
+  unfoldable pub attempt : ScalarState → Option (Attempted ℕ)
+  attempt s = do
     fetched ← fetch s
     effect ← execute s (add (s .pc) (fetched .length)) (meaning (fetched .operation) (s .pc))
     some (record { fetched = fetched; effect = effect })
@@ -143,7 +142,7 @@ module _ (p : Program) where
   -- "It adds its control step to the trace, 1 to the steps and, for an SW exactly at the event count's address, .."
   unfoldable pub step : ScalarState → Option ScalarState
   step s = do
-    seen ← look s
+    seen ← attempt s
     some (apply write (p .symbols .«event_count») s (seen .fetched) (seen .effect))
 
   -- the events from index i on, after those done, one for each location left

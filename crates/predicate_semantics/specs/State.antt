@@ -36,7 +36,7 @@ pub data Effect (W : Type 0) : Type 0 where
   stores : ℕ → ℕ → W → ℕ → Effect W
 
 -- what the next step would do, with nothing done yet
-pub record Looked (W : Type 0) : Type 0 where
+pub record Attempted (W : Type 0) : Type 0 where
   pub fetched : Fetched
   pub effect : Effect W
 
@@ -65,8 +65,8 @@ recorded eventCount pc address bytes locations =
     choose (eqb bytes 4 && eqb address eventCount) (λ _. locations ++ pc ∷ []) (λ _. locations)
 
 -- a completed step adds its control step to the trace and 1 to the steps
-unfoldable pub advance : {W M : Type 0} → State W M → Fetched → ℕ → List W → M → List ℕ → State W M
-advance s fetched next registers memory locations = record {
+unfoldable pub advanced : {W M : Type 0} → State W M → Fetched → ℕ → List W → M → List ℕ → State W M
+advanced s fetched next registers memory locations = record {
   pc = next;
   registers = registers;
   memory = memory;
@@ -82,9 +82,9 @@ advance s fetched next registers memory locations = record {
 
 -- the state after a step, by its effect; write stores the low bytes of a value at an address: memory, bytes, address, value
 unfoldable pub apply : {W M : Type 0} → (M → ℕ → ℕ → W → M) → ℕ → State W M → Fetched → Effect W → State W M
-apply write eventCount s fetched (goes next) = advance s fetched next (s .registers) (s .memory) (s .locations)
+apply write eventCount s fetched (goes next) = advanced s fetched next (s .registers) (s .memory) (s .locations)
 apply write eventCount s fetched (sets rd value next) =
-    advance s fetched next (assign (s .registers) rd value) (s .memory) (s .locations)
+    advanced s fetched next (assign (s .registers) rd value) (s .memory) (s .locations)
 apply write eventCount s fetched (stores address bytes value next) =
-    advance s fetched next (s .registers) (write (s .memory) bytes address value)
+    advanced s fetched next (s .registers) (write (s .memory) bytes address value)
     (recorded eventCount (s .pc) address bytes (s .locations))

@@ -1,5 +1,5 @@
 use borrow.Author.Needs.{needs}
-use Rattle.predicate_semantics.specs.Meaning.{meaning}
+use Rattle.predicate_action.specs.Meaning.{meaning}
 use Rattle.predicate_action.proofs.action_of.Statement.{statement}
 use Rattle.predicate_action.proofs.action_of.Tie as tie
 
