@@ -1,4 +1,4 @@
--- The bound of 1,000,000 steps: an image that jumps to itself, by induction on the limit and not by computing so many steps.
+-- The bound on steps: an image that jumps to itself, by induction on the limit and not by computing so many steps.
 use mathlib.Core.Path.{_≡_, refl}
 use mathlib.Core.Bool.{true}
 use mathlib.Core.List.{List, [], _∷_, _++_}

@@ -1,4 +1,4 @@
--- The table of document 01's cases, by computation.
+-- The table of cases, by computation.
 use mathlib.Core.Path.{_≡_, refl}
 use mathlib.Core.Bool.{true}
 use lib.Bits.{xor-self}

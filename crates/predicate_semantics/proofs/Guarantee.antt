@@ -1,4 +1,4 @@
--- Demand 3: the prefix form and the acceptance form over any list of inputs, and then for inputs 6 to 255.
+-- Demand 3: while the run goes on and where it accepts, over any list of inputs, and then for the standing ones.
 use mathlib.Core.Path.{_≡_, refl, _∙_, ap}
 use mathlib.Core.Bool.{Bool, true, false}
 use mathlib.Core.Option.{some}

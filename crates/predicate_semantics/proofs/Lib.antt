@@ -1,4 +1,4 @@
--- What is proved of the two runs: demand 3, the cases of document 01, the record's rules, and laws that the proof of a loop cites.
+-- What is proved of the two runs: demand 3, the table of cases, the record's rules, and laws that the proof of a loop cites.
 pub mod Lists
 pub mod Sim
 pub mod Values

@@ -25,7 +25,7 @@ use Rattle.predicate_semantics.specs.declared.CompiledMmioEvent.{Compile
 use Rattle.predicate_semantics.specs.declared.PredicateControlStep.{PredicateControlStep}
 use Rattle.predicate_semantics.specs.declared.Rv32SymbolLayout.{Rv32SymbolLayout}
 use Rattle.predicate_semantics.specs.Choice.{choose}
-use Rattle.predicate_semantics.specs.Program.{Program, memoryEnd, stop, stopWord, imageEnd, sized, inMemory, symbolsPlaced}
+use Rattle.predicate_semantics.specs.Program.{Program, memoryEnd, stop, stopWord, maxEvents, imageEnd, sized, inMemory, symbolsPlaced}
 use Rattle.predicate_semantics.specs.State.{Result, Effect, goes, sets, stores, Attempted, fill, atStart, recorded, advanced, apply}
 use Rattle.predicate_semantics.specs.Memory.{Written, LaneBytes, put, read, write}
 use Rattle.predicate_semantics.specs.Refusal.{Refusal, Tested, passed, refused, refuse, _>>=_}
@@ -315,19 +315,19 @@ module _ (p : Program) (l : Setup) where
       bind (always-accessAgreed 9 m 4 _ tt) (λ f _.
       bind (always-accessAgreed 10 m 4 _ tt) (λ v _. gives tt)))
 
-  always-events : (m : LaneBytes) (i : ℕ) (done : List CompiledMmioEvent) (ls : List ℕ)
-      → Always (λ es. length es ≡ length done + length ls) (events p l m i done ls)
+  always-events : (from : ℕ) (m : LaneBytes) (i : ℕ) (done : List CompiledMmioEvent) (ls : List ℕ)
+      → Always (λ es. length es ≡ length done + length ls) (events (l .inputs) from m i done ls)
   unfolding events
-  always-events m i done [] = gives {a = done} (omega arith)
-  always-events m i done (x ∷ ls) =
+  always-events from m i done [] = gives {a = done} (omega arith)
+  always-events from m i done (x ∷ ls) =
       bind (always-eventAt m _ x) (λ e _.
-      weaken (always-events m (suc i) _ ls) (λ es e. e ∙ simp length-append (omega arith)))
+      weaken (always-events from m (suc i) _ ls) (λ es e. e ∙ simp length-append (omega arith)))
 
   -- what an answer has from the state at stop
   record Answered (s : LaneState) (r : Result) : Type 0 where
     same-steps : s .steps ≡ r .steps
     same-trace : s .trace ≡ r .trace
-    few : length (r .events) ≤ 32
+    few : length (r .events) ≤ maxEvents
     as-located : length (r .events) ≡ length (s .locations)
 
   always-finish : (s : LaneState) → Always (Answered s) (finish p l s)
@@ -336,19 +336,20 @@ module _ (p : Program) (l : Setup) where
       bind (always-agreed 6 _ tt) (λ value _.
       bind (always-accessAgreed 7 (memoryOf p l s) 4 _ tt) (λ count _.
       bind (always-require 12 _ tt) (λ u t.
-      bind (always-events (memoryOf p l s) 0 [] (s .locations)) (λ es e. gives (record {
+      bind (always-events _ (memoryOf p l s) 0 [] (s .locations)) (λ es e. gives (record {
         same-steps = refl;
         same-trace = refl;
         few = bounded count (length (s .locations)) (length es) t e;
         as-located = omega (arith, e);
       })))))
     where
-      bounded : (count n m : ℕ) → T (leb count 32 && eqb count n) → m ≡ 0 + n → m ≤ 32
+      bounded : (count n m : ℕ) → T (leb count maxEvents && eqb count n) → m ≡ 0 + n → m ≤ maxEvents
       bounded count n m t e =
-          omega (arith, leb→le count 32 (both-left (leb count 32) (eqb count n) t), eqb→eq count n (both-right (leb count 32) (eqb count n) t))
+          let few : Bool = leb count maxEvents in
+          omega (arith, leb→le count maxEvents (both-left few (eqb count n) t), eqb→eq count n (both-right few (eqb count n) t))
 
-  -- an event for each location, and at most 32
-  pub events-located : (s : LaneState) (r : Result) → finish p l s ≡ passed r → (length (r .events) ≡ length (s .locations)) × (length (r .events) ≤ 32)
+  -- an event for each location, and no more than are kept
+  pub events-located : (s : LaneState) (r : Result) → finish p l s ≡ passed r → (length (r .events) ≡ length (s .locations)) × (length (r .events) ≤ maxEvents)
   events-located s r q = let a : Answered s r = passes (rw q at (always-finish s)) in (a .as-located, a .few)
 
   -- what holds where a run ends: of its trace, its steps, and an answer at stop

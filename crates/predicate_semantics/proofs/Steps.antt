@@ -81,12 +81,12 @@ module _ (p : Program) (l : Setup) (k input : ℕ) (here : getElem? (l .inputs) 
         bind-same (sim-accessAgreed 9 4 _) (λ f.
         bind-same (sim-accessAgreed 10 4 _) (λ v. agrees refl)))
 
-    sim-events : (i : ℕ) (done : List CompiledMmioEvent) (ls : List ℕ)
-        → Sim _≡_ (Lane.events p l bytes i done ls) (Scalar.events p m i done ls)
+    sim-events : (from i : ℕ) (done : List CompiledMmioEvent) (ls : List ℕ)
+        → Sim _≡_ (Lane.events (l .inputs) from bytes i done ls) (Scalar.events from m i done ls)
     unfolding Lane.events Scalar.events
-    sim-events i done [] = agrees refl
-    sim-events i done (x ∷ ls) =
-        bind-same (sim-eventAt _ x) (λ e. sim-events (suc i) _ ls)
+    sim-events from i done [] = agrees refl
+    sim-events from i done (x ∷ ls) =
+        bind-same (sim-eventAt _ x) (λ e. sim-events from (suc i) _ ls)
 
   module _ (s : LaneState) (rs : List ℕ) (m : Bytes)
       (regs : Regs (length (l .inputs)) k (s .registers) rs) (mem : Mem (p .image) (l .inputs) k (s .memory) m) where
@@ -155,7 +155,7 @@ module _ (p : Program) (l : Setup) (k input : ℕ) (here : getElem? (l .inputs) 
         bind-value _ (sim-agreed 6 (at-reg 10))
         (bind-same (sim-accessAgreed (s .memory) m mem 7 4 _) (λ count.
         bind-same (sim-require 12 _) (λ _.
-        bind-same (sim-events (s .memory) m mem _ _ _) (λ es. agrees refl))))
+        bind-same (sim-events (s .memory) m mem _ _ _ _) (λ es. agrees refl))))
 
   -- where the lane run reaches a state, the scalar run reaches one that goes with it
   abbrev Along : LaneState → Option ScalarState → Type 0

@@ -15,7 +15,7 @@ use Rattle.predicate_semantics.specs.declared.PredicateControlStep.{Pred
 use Rattle.predicate_semantics.specs.declared.Rv32SymbolLayout.{Rv32SymbolLayout}
 use Rattle.predicate_semantics.specs.RecordRules.{Chain, Words, Completed}
 use Rattle.predicate_semantics.specs.Standing.{standing, setup, standingLaneRun}
-use Rattle.predicate_semantics.specs.Trace.{stepWidths, stepValues, stepOf, traceBytes, stepsAt, putEntry}
+use Rattle.predicate_semantics.specs.Trace.{stepWidths, entryBytes, stepValues, stepOf, traceBytes, stepsAt, putEntry}
 use Rattle.predicate_semantics.proofs.RecordRules.{completed}
 use Rattle.predicate_semantics.proofs.ExpandedWords.{standing-expands-to-words}
 
@@ -23,7 +23,7 @@ pub steps-values : (ss : List PredicateControlStep) → map stepOf (map stepValu
 steps-values [] = refl
 steps-values (s ∷ ss) = ap (λ (r : List PredicateControlStep). s ∷ r) (steps-values ss)
 
-pub length-trace : (ss : List PredicateControlStep) → length (traceBytes ss) ≡ length ss * 13
+pub length-trace : (ss : List PredicateControlStep) → length (traceBytes ss) ≡ length ss * entryBytes
 length-trace [] = refl
 length-trace (s ∷ ss) = omega (arith, length-trace ss)
 
@@ -53,6 +53,6 @@ module _ (image : List ℕ) (symbols : Rv32SymbolLayout) (rows entries : ℕ) wh
       (standing-completed .chain) (standing-completed .words standing-expands-to-words)
 
 -- an entry that lies inside is written
-pub entry-inside : (bs : List ℕ) (at : ℕ) (c : PredicateControlStep) → at + 13 ≤ length bs → putEntry bs at c ≡ sets bs at (pack stepWidths (stepValues c))
+pub entry-inside : (bs : List ℕ) (at : ℕ) (c : PredicateControlStep) → at + entryBytes ≤ length bs → putEntry bs at c ≡ sets bs at (pack stepWidths (stepValues c))
 unfolding putEntry
 entry-inside bs at c h = rw (le-leb _ _ h)

@@ -12,7 +12,7 @@ use Rattle.predicate_semantics.specs.Scalar.{scalarRun}
 use Rattle.predicate_semantics.specs.Lane.{Setup, laneRun}
 use Rattle.predicate_semantics.specs.Cases.{refuses, holds}
 
--- The image is refused by 3 after 1,000,000 completed steps and no other number, with any rows from four on and any trace entries from so many on.
+-- Refusal 3 comes after so many completed steps and no other number, with any rows from four on and any trace entries from so many on.
 -- The number is spelled here, and not named, because this statement is what fixes it.
 abbrev pub RefusedAtBound : List ℕ → Type 0
 RefusedAtBound image =

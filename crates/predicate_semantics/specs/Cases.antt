@@ -1,4 +1,4 @@
--- Document 01's cases marked * ("Threads on both sides of an edge"), its slipped threads and the edges of lent space, as one table.
+-- Threads on both sides of an edge: the cases marked *, the slips named there, and the edges of lent space, as one table.
 use mathlib.Core.Path.{_≡_}
 use mathlib.Core.Bool.{Bool, true, false, _&&_}
 use mathlib.Core.Option.{some, Option·map}
@@ -30,7 +30,7 @@ pub record Case : Type 0 where
   pub entries : ℕ
   pub outcome : Outcome
 
--- the event count and the events where document 01's example has them
+-- the event count and the events where the example of the program has them
 unfoldable pub symbols : ℕ → Rv32SymbolLayout
 symbols entry = record { entry = entry; «event_count» = 0x80001000; events = 0x80001004 }
 
@@ -110,7 +110,7 @@ cases =
     ∷ plain (word 0x800015B7 ++ half 0x4605 ++ word 0x00C5A023 ++ return1) (accepts 1 5)
     ∷ []
 
--- "AD 8D 2E 85 82 80 ..: 6, though every scalar run gives 0"
+-- the image that the lanes refuse as unknown: each scalar run of it answers 0
 abbrev pub ScalarRunsGiveZero : Type 0
 ScalarRunsGiveZero =
     (input : ℕ) (others : ℕ → ℕ)
@@ -127,7 +127,7 @@ controlStep pc word bytes next = record {
   «next_program_counter» = next;
 }
 
--- document 01's example of the program, 05 45 82 80; its trace holds the words after expansion
+-- Record: the example of the program, 05 45 82 80; its trace holds the words after expansion
 unfoldable pub example : Ended
 example = standingLaneRun return1 (symbols imageBase) 200 2048
 

@@ -1,4 +1,4 @@
--- Demand 3: what the lane run promises of each input's scalar run, during the run and whenever it accepts.
+-- Demand 3: what the lane run promises of the scalar run of each input, while it runs and where it accepts.
 use mathlib.Core.Path.{_≡_}
 use mathlib.Core.Option.{some}
 use mathlib.Core.List.{List}
@@ -58,9 +58,8 @@ module _ (p : Program) (l : Setup) where
       → (k input : ℕ) → getElem? (l .inputs) k ≡ some input
       → (others : ℕ → ℕ) → scalarRun p limit input others ≡ some r
 
--- "Whenever the lane run accepts: for every input 6 to 255 and whatever the 28 other registers hold at the start, document 01's scalar run
--- reaches stop and answers, and both agree in return value, events and their order, each event's location, the trace entry by entry, and
--- the step count": the two results, which hold just these, are equal.
+-- Where the lane run of an image accepts, every input's scalar run, with whatever in the registers that are not set, has the same result:
+-- return value, steps, trace, and the events with their locations.
 abbrev pub Guarantee : Type 0
 Guarantee =
     (image : List ℕ) (symbols : Rv32SymbolLayout) (rows entries : ℕ) (r : Result)

@@ -1,4 +1,4 @@
--- The lane run (document 01, "Control step"): the scalar run's text over all inputs at once, with the tests that lanes and lent space add.
+-- Control step: the lane run, which is the scalar run's text over all inputs at once, with the tests that lanes and lent space add.
 use mathlib.Core.Bool.{_&&_}
 use mathlib.Core.Option.{Option, none, some}
 use mathlib.Core.List.{List, [], _∷_, _++_}
@@ -20,7 +20,7 @@ use Rattle.predicate_semantics.specs.declared.CompiledMmioEvent.{Compile
 use Rattle.predicate_semantics.specs.declared.PredicateTransducerExecution.{PredicateTransducerExecution}
 use Rattle.predicate_semantics.specs.declared.Rv32SymbolLayout.{Rv32SymbolLayout}
 use Rattle.predicate_semantics.specs.Choice.{choose}
-use Rattle.predicate_semantics.specs.Program.{Core, Program, memoryEnd, stop, stopWord, stackPointer, maxEvents, eventBytes, imageEnd, sized, symbolsPlaced}
+use Rattle.predicate_semantics.specs.Program.{Core, Program, memoryEnd, stop, stopWord, stackPointer, maxEvents, eventStride, imageEnd, sized, symbolsPlaced}
 use Rattle.predicate_semantics.specs.State.{State, Result, Effect, goes, sets, stores, Attempted, fill, atStart, apply}
 use Rattle.predicate_semantics.specs.Memory.{Written, LaneBytes, laneBytes, read, write}
 use Rattle.predicate_semantics.specs.Refusal.{Tested, passed, refused, _>>=_, ifPassed, refuse, require, found}
@@ -40,7 +40,7 @@ pub record Ended : Type 0 where
   pub state : LaneState
   pub answer : Tested Result
 
--- what a uniform test in a role answers: the value that all lanes share, 6 where it is not known, 7 where they differ
+-- Lane word: what a uniform test in a role answers: the value that all lanes share, 6 where it is not known, 7 where they differ
 abbrev pub agreedAs : ℕ → Uniform → Tested ℕ
 agreedAs role (Value v) = passed v
 agreedAs role Unknown = refuse 6 role
@@ -50,13 +50,13 @@ agreedAs role Uneven = refuse 7 role
 unfoldable pub agreed : ℕ → LaneWord → Tested ℕ
 agreed role w = agreedAs role (uniformOf w)
 
--- range: an address below memory is 4, an access past its end is 5
+-- the range of an access: 4 below memory, 5 past its end
 unfoldable pub inside : ℕ → ℕ → Tested (Unit {0})
 inside a n = do
   _ ← require 4 (leb imageBase a)
   require 5 (leb (a + n) memoryEnd)
 
--- before any step, of an image of so many bytes: 1, 2, and 13 where under four rows are lent
+-- Who causes a refusal: before any step, of an image of so many bytes, 1, 2, and 13 where under four rows are lent
 unfoldable pub startTests : ℕ → Rv32SymbolLayout → ℕ → Tested (Unit {0})
 startTests size symbols rows = do
   _ ← require 1 (sized size)
@@ -95,7 +95,7 @@ module _ (inputs : List ℕ) where
     _ ← inside a n
     passed (read (length inputs) memory n a)
 
-  -- a load that "tests range, then uniform"
+  -- a load whose lanes must agree
   unfoldable pub accessAgreed : ℕ → LaneBytes → ℕ → ℕ → Tested ℕ
   accessAgreed role memory n a = do
     w ← access memory n a
@@ -121,6 +121,13 @@ module _ (inputs : List ℕ) where
     offset ← accessAgreed 9 memory 4 (a + 4)
     value ← accessAgreed 10 memory 4 (a + 8)
     passed (record { operation = operation; offset = offset; value = value; location = location })
+
+  -- the events that lie from an address on, from index i on and after those done, one for each location left
+  unfoldable pub events : ℕ → LaneBytes → ℕ → List CompiledMmioEvent → List ℕ → Tested (List CompiledMmioEvent)
+  events from memory i done [] = passed done
+  events from memory i done (location ∷ locations) = do
+    e ← eventAt memory (from + eventStride * i) location
+    events from memory (suc i) (done ++ e ∷ []) locations
 
 module _ (p : Program) (l : Setup) where
   -- one lane for each input
@@ -158,32 +165,25 @@ module _ (p : Program) (l : Setup) where
     _ ← roomFor (imageEnd p) (l .rows) address n (length (write (s .memory) n address (reg s b)))
     passed (stores address n (reg s b) next)
 
-  -- what the next step would do: its tests up to the trace space
+  -- the next step with nothing done yet: all its tests but the trace space
   unfoldable pub attempt : LaneState → Tested (Attempted LaneWord)
   attempt s = do
     fetched ← fetch (l .inputs) (p .core) (memoryOf s) (s .steps) (s .pc)
     effect ← execute s (add (s .pc) (fetched .length)) (meaning (fetched .operation) (s .pc))
     passed (record { fetched = fetched; effect = effect })
 
-  -- "Last, the trace space."
+  -- a step, which needs a trace entry besides
   unfoldable pub step : LaneState → Tested LaneState
   step s = do
     seen ← attempt s
     _ ← require 14 (ltb (s .steps) (l .entries))
     passed (apply write (p .symbols .«event_count») s (seen .fetched) (seen .effect))
 
-  -- the events from index i on, after those done
-  unfoldable pub events : LaneBytes → ℕ → List CompiledMmioEvent → List ℕ → Tested (List CompiledMmioEvent)
-  events memory i done [] = passed done
-  events memory i done (location ∷ locations) = do
-    e ← eventAt (l .inputs) memory (p .symbols .events + eventBytes * i) location
-    events memory (suc i) (done ++ e ∷ []) locations
-
   -- at stop, with a return value and an event count: 12, then the events
   unfoldable pub finishEvents : LaneState → ℕ → ℕ → Tested Result
   finishEvents s returnValue count = do
     _ ← require 12 (leb count maxEvents && eqb count (length (s .locations)))
-    es ← events (memoryOf s) 0 [] (s .locations)
+    es ← events (l .inputs) (p .symbols .events) (memoryOf s) 0 [] (s .locations)
     passed (record { returnValue = returnValue; steps = s .steps; trace = s .trace; events = es })
 
   -- at stop: the return value is x10
@@ -207,7 +207,7 @@ module _ (p : Program) (l : Setup) where
   after zero s = some s
   after (suc n) s = choose (eqb (s .pc) stop) (λ _. none) (λ _. ifPassed (step s) (λ t. after n t))
 
-  -- "x0 = 0, x1 = stop, x2 = 801FFFF0, x10 = the input; the rest are unknown"; the stop word counts as four written bytes
+  -- Written byte: registers before any step, and the stop word as the first bytes that are written
   unfoldable pub begin : LaneState
   begin = record {
     pc = p .symbols .entry;
@@ -233,11 +233,11 @@ module _ (p : Program) (l : Setup) where
   unfoldable pub reached : ℕ → Option LaneState
   reached n = ifPassed start (λ s. after n s)
 
-  -- "distinct written bytes, stop's included"
+  -- Record: how many bytes are written, stop's four among them
   unfoldable pub writtenBytes : LaneState → ℕ
   writtenBytes s = length (s .memory)
 
-  -- "lane operations 250 × steps"
+  -- Record: one for each lane of each step
   unfoldable pub laneOperations : LaneState → ℕ
   laneOperations s = laneCount * s .steps
 

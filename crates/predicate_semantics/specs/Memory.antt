@@ -1,4 +1,4 @@
--- Memory as the lane run sees it (document 01, "Written byte"): the image, then zeros, and over them the written bytes, held per lane.
+-- Written byte: memory as the lane run sees it, which is the bytes that it has written, each with its lanes, over those that it began with.
 use mathlib.Core.List.{List, [], _∷_}
 use Prim.Native.Nat.{ℕ, zero, suc, _/_, _%_}
 use lib.Dec.{eqb}
@@ -18,7 +18,7 @@ unfoldable pub byteAt : LaneWord → ℕ → List Written → LaneWord
 byteAt other a [] = other
 byteAt other a (w ∷ ws) = choose (eqb (w .address) a) (λ _. w .byte) (λ _. byteAt other a ws)
 
--- one written byte for an address, however often it is stored
+-- a store to an address that is written takes the place of its byte
 unfoldable pub put : ℕ → LaneWord → List Written → List Written
 put a b [] = record { address = a; byte = b } ∷ []
 put a b (w ∷ ws) =

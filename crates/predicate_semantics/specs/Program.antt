@@ -1,4 +1,4 @@
--- What both runs are fed with: an image, its symbols and the core that runs them; and memory as it starts (document 01, "Written byte").
+-- What both runs are fed with: an image, its symbols, the core that runs them, and memory as it starts.
 use mathlib.Core.Bool.{Bool, _&&_, cond}
 use mathlib.Core.Option.{Option}
 use mathlib.Core.List.{List}
@@ -15,17 +15,17 @@ pub record Core : Type 0 where
   pub decode : ℕ → ℕ → Option Operation
   pub registers : ℕ
 
--- "an image, the symbols", and the core that runs them
+-- an image with its symbols, and the core
 pub record Program : Type 0 where
   pub core : Core
   pub image : List ℕ
   pub symbols : Rv32SymbolLayout
 
--- "Memory is 80000000 to 801FFFFF": the address past its end
+-- Written byte: the address past memory's end
 abbrev pub memoryEnd : ℕ
 memoryEnd = 0x80200000
 
--- "The stop word 00100073 lies at stop = 801FFFFC"
+-- Written byte: where a run ends
 abbrev pub stop : ℕ
 stop = 0x801FFFFC
 
@@ -33,7 +33,7 @@ stop = 0x801FFFFC
 abbrev pub stopWord : ℕ
 stopWord = 0x00100073
 
--- "x2 = 801FFFF0"
+-- Written byte: x2 before any step
 abbrev pub stackPointer : ℕ
 stackPointer = 0x801FFFF0
 
@@ -42,10 +42,10 @@ abbrev pub maxEvents : ℕ
 maxEvents = 32
 
 -- how far apart they lie: three words each
-abbrev pub eventBytes : ℕ
-eventBytes = 12
+abbrev pub eventStride : ℕ
+eventStride = 12
 
--- the byte that memory starts with at an address: the image's, then zeros; 0 below memory too
+-- the byte that memory starts with at an address: the image's, 0 past it and below memory
 unfoldable pub initial : List ℕ → ℕ → ℕ
 initial image a = cond (ltb a imageBase) 0 (getD image (a - imageBase) 0)
 
@@ -57,10 +57,10 @@ imageEnd p = imageBase + length (p .image)
 unfoldable pub sized : ℕ → Bool
 sized size = ltb 0 size && leb size maxImageBytes
 
--- no refusal 2: each symbol lies in memory
+-- an address in memory
 unfoldable pub inMemory : ℕ → Bool
 inMemory a = leb imageBase a && ltb a memoryEnd
 
--- the three of them
+-- no refusal 2
 unfoldable pub symbolsPlaced : Rv32SymbolLayout → Bool
 symbolsPlaced s = inMemory (s .entry) && inMemory (s .«event_count») && inMemory (s .events)

@@ -1,4 +1,4 @@
--- What holds of every run besides demand 3: the rules that its record keeps (document 01, "Record").
+-- Record: the rules that a run's record keeps, which hold of every run.
 use mathlib.Core.Path.{_≡_}
 use mathlib.Core.Bool.{Bool, _&&_, _||_, cond}
 use mathlib.Core.Option.{some}
@@ -16,7 +16,7 @@ use Rattle.predicate_semantics.specs.Refusal.{Refusal, passed}
 use Rattle.predicate_semantics.specs.Lane.{LaneState, Setup}
 use Rattle.predicate_semantics.specs.Standing.{standingLaneRun}
 
--- "lengths 2 or 4, each next counter equal to the following counter": a trace that begins at one address and goes to another
+-- a trace that leads from one address to another, each step from where the step before it led, in instructions of 2 or 4 bytes
 abbrev pub Chain : ℕ → List PredicateControlStep → ℕ → Type 0
 Chain from [] to = from ≡ to
 Chain from (c ∷ cs) to =
@@ -24,7 +24,7 @@ Chain from (c ∷ cs) to =
     × ((c .«instruction_bytes» ≡ 2) ⊎ (c .«instruction_bytes» ≡ 4))
     × Chain (c .«next_program_counter») cs to
 
--- "the control step (4, 4, 1, 4)": its program counters and its word are numbers of four bytes
+-- the numbers of each step that an entry holds in four bytes fit there
 abbrev pub Words : List PredicateControlStep → Type 0
 Words [] = Unit
 Words (c ∷ cs) =
@@ -36,10 +36,9 @@ ExpandsToWords core = (h w : ℕ) → core .expand h ≡ some w → w < 2 ^ 32
 
 -- of every run, accepted or refused: the state that it ends in
 pub record Completed (p : Program) (l : Setup) (limit : ℕ) (s : LaneState) : Type 0 where
-  -- "its trace is the first lent entries, as many as the steps"
+  -- an entry for each step, and each of them lent
   pub counted : length (s .trace) ≡ s .steps
   pub lent : s .steps ≤ l .entries
-  -- "completed steps (4, at most 1,000,000)"
   pub bound : s .steps ≤ limit
   pub chain : Chain (p .symbols .entry) (s .trace) (s .pc)
   pub words : ExpandsToWords (p .core) → Words (s .trace)
@@ -48,22 +47,20 @@ pub record Completed (p : Program) (l : Setup) (limit : ℕ) (s : LaneState) : T
 pub record Accepted (l : Setup) (s : LaneState) (r : Result) : Type 0 where
   pub steps : s .steps ≡ r .steps
   pub trace : s .trace ≡ r .trace
-  -- "the last equal to stop"
   pub arrived : s .pc ≡ stop
-  -- "at most 32 events"
   pub events : length (r .events) ≤ maxEvents
-  -- "written bytes 4 to 2,097,151": stop's four are written, and none of the image's; each has a row
+  -- stop's four are written, none of the image's is, and each has a row
   pub written-least : 4 ≤ length (s .memory)
   pub written-most : length (s .memory) < maxMemoryBytes
   pub lent : length (s .memory) ≤ l .rows
 
--- "steps 1 to 1,000,000": with inputs that differ, entry = stop is refused
+-- no record of no steps: where entry is stop, inputs that differ refuse the run
 abbrev pub TakesStep : Type 0
 TakesStep =
     (image : List ℕ) (symbols : Rv32SymbolLayout) (rows entries : ℕ) (r : Result)
     → (standingLaneRun image symbols rows entries) .answer ≡ passed r → 1 ≤ r .steps
 
--- of a refused run: "refusal 1 to 14", and "a role of 1 to 10 for refusals 6 and 7, else 0"
+-- the refusals that a record can hold: a role goes with 6 and 7 alone
 unfoldable pub proper : Refusal → Bool
 proper r =
     leb 1 (r .number) && leb (r .number) 14

@@ -1,4 +1,4 @@
--- Refusals (document 01, "Who causes a refusal"), and what a part of the lane run gives: a value, or the refusal that ends the run.
+-- Who causes a refusal: what a part of the lane run gives, which is a value, or the refusal that ends the run.
 use mathlib.Core.Bool.{Bool, true, false}
 use mathlib.Core.Option.{Option, none, some}
 use Prim.Native.Nat.{ℕ}

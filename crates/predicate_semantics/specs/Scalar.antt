@@ -1,4 +1,4 @@
--- The scalar run (document 01): one input, "nothing from lane words, rows or record". After "else" stands what the lane run refuses with where this one fails.
+-- Scalar run: the run of one input, without lane words, rows or record. After "else" stands what the lane run refuses with where this one fails.
 use mathlib.Core.Bool.{Bool, true, false, _&&_}
 use mathlib.Core.Option.{Option, none, some}
 use mathlib.Core.List.{List, [], _∷_, _++_}
@@ -16,14 +16,14 @@ use Rattle.predicate_action.specs.Meaning.{extensionOf, meaning}
 use Rattle.predicate_semantics.specs.declared.CompiledMmioEvent.{CompiledMmioEvent}
 use Rattle.predicate_semantics.specs.declared.Rv32SymbolLayout.{Rv32SymbolLayout}
 use Rattle.predicate_semantics.specs.Choice.{choose}
-use Rattle.predicate_semantics.specs.Program.{Program, memoryEnd, stop, stopWord, stackPointer, maxEvents, eventBytes, initial, imageEnd, sized, symbolsPlaced}
+use Rattle.predicate_semantics.specs.Program.{Program, memoryEnd, stop, stopWord, stackPointer, maxEvents, eventStride, initial, imageEnd, sized, symbolsPlaced}
 use Rattle.predicate_semantics.specs.State.{State, Result, Effect, goes, sets, stores, Attempted, fill, atStart, apply}
 
 -- a byte for each address
 abbrev pub Bytes : Type 0
 Bytes = ℕ → ℕ
 
--- "32 register values, a byte for each memory address"
+-- a value for each register
 abbrev pub ScalarState : Type 0
 ScalarState = State ℕ Bytes
 
@@ -84,6 +84,13 @@ eventAt memory a location = do
   value ← access memory 4 (a + 8)
   some (record { operation = operation; offset = offset; value = value; location = location })
 
+-- the events that lie from an address on, from index i on and after those done, one for each location left
+unfoldable pub events : ℕ → Bytes → ℕ → List CompiledMmioEvent → List ℕ → Option (List CompiledMmioEvent)
+events from memory i done [] = some done
+events from memory i done (location ∷ locations) = do
+  e ← eventAt memory (from + eventStride * i) location
+  events from memory (suc i) (done ++ e ∷ []) locations
+
 -- the value of a register
 unfoldable pub reg : ScalarState → ℕ → ℕ
 reg s i = getD (s .registers) i 0
@@ -132,35 +139,28 @@ module _ (p : Program) where
     _ ← roomFor (imageEnd p) (add (reg s a) offset) n
     some (stores (add (reg s a) offset) n (reg s b) next)
 
-  -- what the next step would do
+  -- the next step with nothing done yet
   unfoldable pub attempt : ScalarState → Option (Attempted ℕ)
   attempt s = do
     fetched ← fetch s
     effect ← execute s (add (s .pc) (fetched .length)) (meaning (fetched .operation) (s .pc))
     some (record { fetched = fetched; effect = effect })
 
-  -- "It adds its control step to the trace, 1 to the steps and, for an SW exactly at the event count's address, .."
+  -- a step
   unfoldable pub step : ScalarState → Option ScalarState
   step s = do
     seen ← attempt s
     some (apply write (p .symbols .«event_count») s (seen .fetched) (seen .effect))
 
-  -- the events from index i on, after those done, one for each location left
-  unfoldable pub events : Bytes → ℕ → List CompiledMmioEvent → List ℕ → Option (List CompiledMmioEvent)
-  events memory i done [] = some done
-  events memory i done (location ∷ locations) = do
-    e ← eventAt memory (p .symbols .events + eventBytes * i) location
-    events memory (suc i) (done ++ e ∷ []) locations
-
-  -- "On first reaching stop it ends, and answers x10, the steps, the trace, and as many events as the word at the event count's address says"; else 12
+  -- the answer at stop: the word at the event count's address is the number of recorded events; else 12
   unfoldable pub finish : ScalarState → Option Result
   finish s = do
     count ← access (s .memory) 4 (p .symbols .«event_count»)
     _ ← require (leb count maxEvents && eqb count (length (s .locations)))
-    es ← events (s .memory) 0 [] (s .locations)
+    es ← events (p .symbols .events) (s .memory) 0 [] (s .locations)
     some (record { returnValue = reg s 10; steps = s .steps; trace = s .trace; events = es })
 
-  -- "While the program counter is not stop, a step", at most so many; else 3
+  -- at most so many steps, up to the first arrival at stop; else 3
   unfoldable pub run : ℕ → ScalarState → Option Result
   run zero s = choose (eqb (s .pc) stop) (λ _. finish s) (λ _. none)
   run (suc n) s = choose (eqb (s .pc) stop) (λ _. finish s) (λ _. step s >>= λ t. run n t)
@@ -170,7 +170,7 @@ module _ (p : Program) where
   after zero s = some s
   after (suc n) s = choose (eqb (s .pc) stop) (λ _. none) (λ _. step s >>= λ t. after n t)
 
-  -- "It starts at the entry, memory and x0, x1, x2, x10 as above, steps 0, both lists empty"; else 1, 2
+  -- the first state, with a value for each register that is not set
   unfoldable pub start : ℕ → (ℕ → ℕ) → Option ScalarState
   start input others = do
     _ ← startTests (length (p .image)) (p .symbols)
@@ -183,7 +183,7 @@ module _ (p : Program) where
       locations = [];
     })
 
-  -- "Fed with an image, the symbols, an input and values for the 28 unknown registers": the program, a limit of steps, the input, the others
+  -- the run, with a limit of steps, an input, and values for the registers that are not set
   unfoldable pub scalarRun : ℕ → ℕ → (ℕ → ℕ) → Option Result
   scalarRun limit input others = start input others >>= λ s. run limit s
 

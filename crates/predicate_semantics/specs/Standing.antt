@@ -1,4 +1,4 @@
--- The standing instance, that of document 01: the manual's table, 32 registers, inputs 6 to 255, at most 1,000,000 steps.
+-- The standing instance: the manual's table, 32 registers, the standing inputs and bound.
 use mathlib.Core.Option.{Option, none, some}
 use mathlib.Core.List.{List}
 use Prim.Native.Nat.{ℕ, _+_, _-_}
@@ -39,7 +39,7 @@ standing image symbols = record { core = standingCore; image = image; symbols = 
 abbrev pub lastInput : ℕ
 lastInput = firstInput + lanes - 1
 
--- lane k belongs to input firstInput + k
+-- a lane for each standing input
 unfoldable pub setup : ℕ → ℕ → Setup
 setup rows entries = record { inputs = inputs firstInput lanes; rows = rows; entries = entries }
 
@@ -47,6 +47,6 @@ setup rows entries = record { inputs = inputs firstInput lanes; rows = rows; ent
 unfoldable pub standingLaneRun : List ℕ → Rv32SymbolLayout → ℕ → ℕ → Ended
 standingLaneRun image symbols rows entries = laneRun (standing image symbols) (setup rows entries) maxSteps
 
--- the scalar run of one input; others gives the 28 registers that are not set
+-- the scalar run of one input; others gives the registers that are not set
 unfoldable pub standingScalarRun : List ℕ → Rv32SymbolLayout → ℕ → (ℕ → ℕ) → Option Result
 standingScalarRun image symbols input others = scalarRun (standing image symbols) maxSteps input others

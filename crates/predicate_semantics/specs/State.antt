@@ -9,14 +9,14 @@ use Rattle.predicate_semantics.specs.declared.PredicateControlStep.{Pred
 use Rattle.predicate_semantics.specs.declared.CompiledMmioEvent.{CompiledMmioEvent}
 use Rattle.predicate_semantics.specs.Choice.{choose}
 
--- "State: program counter, 32 register values, a byte for each memory address, steps, trace, locations"
+-- Scalar run: the state of a run
 pub record State (W M : Type 0) : Type 0 where
   pub pc : ℕ
   pub registers : List W
   pub memory : M
   pub steps : ℕ
   pub trace : List PredicateControlStep
-  -- all of them: that the code keeps "the first 32" and counts "the others" shows in no answer, since 12 comes before a 33rd is read
+  -- all of them: that the code keeps so many and counts the others shows in no answer, since 12 comes before one more is read
   pub locations : List ℕ
 
 -- what a run that reaches stop answers: x10, the steps, the trace, and the events in their order, each with its location
@@ -59,12 +59,12 @@ unfoldable pub assign : {W : Type 0} → List W → ℕ → W → List W
 assign registers zero value = registers
 assign registers (suc i) value = set registers (suc i) value
 
--- "An SW exactly at the event count's address adds its program counter to the event locations; SB and SH don't."
+-- Control step: only a store of a whole word, just at the event count's address, records an event's location
 unfoldable pub recorded : ℕ → ℕ → ℕ → ℕ → List ℕ → List ℕ
 recorded eventCount pc address bytes locations =
     choose (eqb bytes 4 && eqb address eventCount) (λ _. locations ++ pc ∷ []) (λ _. locations)
 
--- a completed step adds its control step to the trace and 1 to the steps
+-- Scalar run: what every completed step adds
 unfoldable pub advanced : {W M : Type 0} → State W M → Fetched → ℕ → List W → M → List ℕ → State W M
 advanced s fetched next registers memory locations = record {
   pc = next;

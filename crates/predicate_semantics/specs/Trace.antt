@@ -1,4 +1,4 @@
--- A trace's bytes (document 01, "Who causes a refusal"): one entry a step, each as the body of a record's item 03.
+-- Record: a trace's bytes, an entry for each step, as the body of item 03.
 use mathlib.Core.Bool.{cond}
 use mathlib.Core.List.{List, [], _∷_, map}
 use Prim.Native.Nat.{ℕ, _+_}
@@ -8,7 +8,7 @@ use lib.Seq.{sets}
 use Rattle.little_endian.specs.Pack.{total, pack, packs, unpacks}
 use Rattle.predicate_semantics.specs.declared.PredicateControlStep.{PredicateControlStep}
 
--- the control step (4, 4, 1, 4): program counter, word after expansion, length, next program counter
+-- program counter, word after expansion, length, next program counter
 abbrev pub stepWidths : List ℕ
 stepWidths = 4 ∷ 4 ∷ 1 ∷ 4 ∷ []
 

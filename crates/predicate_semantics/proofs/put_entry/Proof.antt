@@ -4,7 +4,7 @@ use borrow.Author.Needs.{needs}
 use borrow.Author.Tests.{le-leb, lt-leb}
 use lib.ListN.{length}
 use Prim.Native.Nat.{_+_, _≤_, _<_}
-use Rattle.predicate_semantics.specs.Trace.{putEntry}
+use Rattle.predicate_semantics.specs.Trace.{entryBytes, putEntry}
 use Rattle.predicate_semantics.proofs.Entry.{entry-put}
 use Rattle.predicate_semantics.proofs.put_entry.Statement.{statement}
 use Rattle.predicate_semantics.proofs.put_entry.Tie as tie
@@ -16,12 +16,12 @@ put-entry-spec =
     (tie.spec
     (λ c.
     let a = c .before .before .args in
-    let h : length (now (a .s)) < a .at + 13 = omega (arith, c .if1 .taken) in
+    let h : length (now (a .s)) < a .at + entryBytes = omega (arith, c .if1 .taken) in
     rw (lt-leb _ _ h))
     (λ c. search needs)
     (λ c.
     let a = c .before .before .before .args in
-    let h : length (now (a .s)) < a .at + 13 = omega (arith, c .if2 .taken, c .before .if1 .left) in
+    let h : length (now (a .s)) < a .at + entryBytes = omega (arith, c .if2 .taken, c .before .if1 .left) in
     rw (lt-leb _ _ h))
     (λ c κs. search needs)
     (λ c. search needs)
@@ -38,6 +38,6 @@ put-entry-spec =
     let d1 = d2 .before .before .before .before in
     let e = d1 .before .before in
     let a = e .before .before .before .args in
-    let h : a .at + 13 ≤ length (now (a .s)) = omega (arith, e .if2 .left, e .before .if1 .left) in
+    let h : a .at + entryBytes ≤ length (now (a .s)) = omega (arith, e .if2 .left, e .before .if1 .left) in
     rw (le-leb _ _ h)
     (entry-put (now (a .s)) (a .at) (a .step) (d1 .put-u32 .ensures) (d2 .put-u322 .ensures) (d3 .put-u8 .ensures) (d4 .put-u323 .ensures))))
