@@ -1,6 +1,7 @@
 use mathlib.Core.Path.{ap}
 use lib.ListN.{replicate}
 use borrow.Author.Needs.{needs}
+use Rattle.predicate_semantics.specs.Program.{maxEvents}
 use Rattle.predicate_semantics.specs.declared.CompiledMmioEvent.{CompiledMmioEvent}
 use Rattle.riscv32imc_predicate.proofs.finish.no_events.Statement.{statement}
 use Rattle.riscv32imc_predicate.proofs.finish.no_events.Tie as tie
@@ -10,4 +11,4 @@ no-events-spec =
     tie.close
     (tie.spec
     (λ c κs. search needs)
-    (λ c. ap (λ (e : CompiledMmioEvent). replicate 32 e) (c .no-event .ensures)))
+    (λ c. ap (λ (e : CompiledMmioEvent). replicate maxEvents e) (c .no-event .ensures)))

@@ -26,10 +26,10 @@ read-events-spec =
     (λ c κs. search needs)
     (λ c. search needs)
     (λ c κs. search needs)
-    (λ c p l a b.
+    (λ c.
     let v = c .before .before in
     let r = v .before .before in (
-      filling-refused (r .before .before .loop .inv) (r .before .loop-test .taken) _ (rw (v .verdict .given .1) at (r .read-event .ensures)) p l a b,
+      filling-refused (r .before .before .loop .inv) (r .before .loop-test .taken) _ (rw (v .verdict .given .1) at (r .read-event .ensures)),
       c .no-events2 .ensures,
     ))
     (λ c. search needs)
