@@ -100,9 +100,14 @@ cases =
     -- a row short for a store elsewhere (SW x0, 8(x2)): 13; under four rows: 13 before any step, also at stop
     ∷ record { image = word 0x00012423 ++ return1; entry = imageBase; rows = 7; entries = 2048; outcome = refuses 13 0 0 }
     ∷ record { image = return1; entry = stop; rows = 3; entries = 2048; outcome = refuses 13 0 0 }
+    -- .. and below the image's end, 11 comes first (LUI x11, 80000; SB x0, 11(x11))
+    ∷ record { image = word 0x800005B7 ++ word 0x000585A3 ++ return1; entry = imageBase; rows = 4; entries = 2048; outcome = refuses 11 0 1 }
     -- a trace entry short: 14; a word without a row comes before it: 9 (EBREAK)
     ∷ record { image = return1; entry = imageBase; rows = 200; entries = 1; outcome = refuses 14 0 1 }
     ∷ record { image = word 0x00100073; entry = imageBase; rows = 200; entries = 0; outcome = refuses 9 0 0 }
+    -- a branch that is taken (BEQ x0, x0, 6, past a C.LI into x0, which is refused), and one that is not (BNE x0, x0, 6)
+    ∷ plain (word 0x00000363 ++ half 0x4005 ++ return1) (accepts 1 3)
+    ∷ plain (word 0x00001363 ++ return1) (accepts 1 3)
     -- slipped: testing JALR before clearing bit 0 (ANDI x11, x10, 1; C.ADD x11, x1; C.LI x10, 1; C.JR x11)
     ∷ plain (word 0x00157593 ++ half 0x9586 ++ half 0x4505 ++ half 0x8582) (accepts 1 4)
     -- slipped: counting SB at the event address (LUI x11, 80001; C.LI x12, 1; SB x12, 0(x11)); SW is counted

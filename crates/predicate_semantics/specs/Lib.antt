@@ -1,15 +1,16 @@
--- What is right: the meaning of the operations, the scalar run, the lane run, and what one promises of the other.
+-- To believe: what both runs are, what one promises of the other, and the bytes and zeros that answers are made of.
 pub mod Choice
 pub mod Program
 pub mod State
 pub mod Scalar
-pub mod Memory
-pub mod Trace
 pub mod Refusal
+pub mod Memory
 pub mod Lane
 pub mod Standing
 pub mod Guarantee
 pub mod Cases
 pub mod Bound
-pub mod RecordRules
+pub mod Trace
 pub mod Blank
+-- For proofs: rules that hold of every run, which the record's proofs cite.
+pub mod RecordRules
