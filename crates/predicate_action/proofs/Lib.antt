@@ -1,2 +1,3 @@
--- What is proved of the actions of decoded operations.
+-- What is proved of the actions of operations.
 pub mod Sources
+pub mod Targets

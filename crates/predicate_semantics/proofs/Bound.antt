@@ -46,15 +46,15 @@ module _ (image : List ℕ) (rows entries : ℕ) where
   }
 
   -- there the image jumps to itself
-  abbrev Spins : ℕ → Type 0
-  Spins bytes = (n : ℕ) (trace : List PredicateControlStep)
-      → attempt p l (spun n trace) ≡ passed (record { fetched = jump-to-itself bytes; effect = sets 0 (constant (laneCount p l) (add imageBase bytes)) imageBase })
+  record Spins (bytes : ℕ) : Type 0 where
+    again : (n : ℕ) (trace : List PredicateControlStep)
+        → attempt p l (spun n trace) ≡ passed (record { fetched = jump-to-itself bytes; effect = sets 0 (constant (laneCount p l) (add imageBase bytes)) imageBase })
 
   starts : sized (length image) ≡ true → 4 ≤ rows → start p l ≡ passed (spun 0 [])
   unfolding start startTests symbolsPlaced inMemory require _>>=_ begin standing setup symbols
   starts small lent = rw (small, le-leb 4 rows lent)
 
-  module _ (bytes : ℕ) (spins : Spins bytes) where
+  module _ {bytes : ℕ} (spins : Spins bytes) where
     abbrev entry : PredicateControlStep
     entry = record {
       «program_counter» = imageBase;
@@ -65,7 +65,7 @@ module _ (image : List ℕ) (rows entries : ℕ) where
 
     step-spun : (n : ℕ) (trace : List PredicateControlStep) → n < entries → step p l (spun n trace) ≡ passed (spun (suc n) (trace ++ entry ∷ []))
     unfolding step require _>>=_ apply advanced assign setup
-    step-spun n trace h = rw (spins n trace, lt-ltb n entries h)
+    step-spun n trace h = rw (spins .again n trace, lt-ltb n entries h)
 
     run-spun : (limit n : ℕ) (trace : List PredicateControlStep) → n + limit ≤ entries
         → ((run p l limit (spun n trace)) .answer ≡ refuse 3 0) × ((run p l limit (spun n trace)) .state .steps ≡ n + limit)
@@ -82,17 +82,17 @@ refused-after e steps answer counted = rw (answer, counted, eq-eqb steps steps r
 refused-at-bound : (image : List ℕ) (bytes : ℕ) → sized (length image) ≡ true → ((rows entries : ℕ) → Spins image rows entries bytes) → RefusedAtBound image
 unfolding holds standingLaneRun laneRun on
 refused-at-bound image bytes small spins rows entries lent enough =
-    let ends = run-spun image rows entries bytes (spins rows entries) 1000000 0 [] (omega arith) in
+    let ends = run-spun image rows entries (spins rows entries) 1000000 0 [] (omega arith) in
     rw (starts image rows entries small lent)
     (refused-after (run (p image rows entries) (l image rows entries) 1000000 (spun image rows entries 0 [])) 1000000 (ends .0) (omega (arith, ends .1)))
 
 jal-spins : (rows entries : ℕ) → Spins (0x6F ∷ 0x00 ∷ 0x00 ∷ 0x00 ∷ []) rows entries 4
 unfolding expansion decoding words running Computing.standing symbols
-jal-spins rows entries n trace = refl
+jal-spins rows entries = record { again = λ n trace. refl }
 
 c-j-spins : (rows entries : ℕ) → Spins (0x01 ∷ 0xA0 ∷ []) rows entries 2
 unfolding expansion decoding words running Computing.standing symbols
-c-j-spins rows entries n trace = refl
+c-j-spins rows entries = record { again = λ n trace. refl }
 
 pub step-bound : StepBound
 unfolding sized

@@ -18,25 +18,26 @@ use Rattle.predicate_semantics.specs.Standing.{setup, standing, standing
 use Rattle.predicate_semantics.specs.Guarantee.{SameAsLane, PrefixGuarantee, CompletedGuarantee, AcceptanceGuarantee, Guarantee}
 use Rattle.predicate_semantics.proofs.Sim.{answered}
 use Rattle.predicate_semantics.proofs.Laws.{run-stop, run-out, run-next, run-refused, step-steps}
+use Rattle.predicate_semantics.proofs.Values.{OneLane}
 use Rattle.predicate_semantics.proofs.Steps.{Related, related, at-reg, sim-reached, sim-laneRun}
 
 module _ (p : Program) (l : Setup) where
-  followed : (k input : ℕ) → getElem? (l .inputs) k ≡ some input → {s : LaneState} {t : ScalarState}
-      → Related (p .image) (l .inputs) k s t → SameAsLane p l k s t
+  followed : (x : OneLane p l) {s : LaneState} {t : ScalarState} → Related x s t → SameAsLane p l (x .number) s t
   unfolding laneCount memoryOf
-  followed k input here (related {s} {rs} {m} regs mem) = record {
+  followed x (related b) = record {
     pc = refl;
     steps = refl;
     trace = refl;
     locations = refl;
-    registers = λ i. at-reg p l k input here s rs m regs mem i .value;
-    memory = λ a. mem a .value;
+    registers = λ i. at-reg x b i .value;
+    memory = λ a. b .mem .byte a .value;
   }
 
   pub prefix-guarantee : PrefixGuarantee p l
   prefix-guarantee n s e k input here others =
-      let along = sim-reached p l k input here n others s e in
-      (along .0, along .1, followed k input here (along .2))
+      let x : OneLane p l = record { number = k; input = input; here = here } in
+      let along = sim-reached x n others s e in
+      (along .0, along .1, followed x (along .2))
 
   -- a state is so many steps on from another
   abbrev On : LaneState → LaneState → Type 0
@@ -77,7 +78,8 @@ module _ (p : Program) (l : Setup) where
 
   pub acceptance-guarantee : (limit : ℕ) → AcceptanceGuarantee p l limit
   acceptance-guarantee limit r e k input here others =
-      answered (rw e at (sim-laneRun p l k input here limit others))
+      let x : OneLane p l = record { number = k; input = input; here = here } in
+      answered (rw e at (sim-laneRun x limit others))
 
 inputs-at : (first count k : ℕ) → k < count → getElem? (inputs first count) k ≡ some (first + k)
 unfolding inputs

@@ -17,89 +17,110 @@ use Rattle.predicate_semantics.specs.Bound.{LimitEnough, LimitShort, Sca
 use Rattle.predicate_semantics.proofs.Laws.{run-stop, run-out, run-next, run-refused, steps-apply, step-steps}
 use Rattle.predicate_semantics.proofs.RecordRules.{kept-start}
 
--- states, what a run ends in, a run with its limit, and its end where the limit is short; the steps of each, and which ends are at stop
-module _ {S E : Type 0} (run : ℕ → S → E) (out : S → E) (steps : S → ℕ) (completed : E → ℕ) (Arrived : E → Type 0) where
+-- a run with its limit, over its states and what it ends in: its end where the limit is short, the steps of each, and which ends are at stop
+record Limiting (S E : Type 0) : Type 1 where
+  run : ℕ → S → E
+  out : S → E
+  steps : S → ℕ
+  completed : E → ℕ
+  Arrived : E → Type 0
+
+module _ {S E : Type 0} (r : Limiting S E) where
   -- an end, elsewhere than at stop, that adds no step
   abbrev Stays : S → E → Type 0
-  Stays s e = (completed e ≤ steps s) × (Arrived e → ⊥)
+  Stays s e = (r .completed e ≤ r .steps s) × (r .Arrived e → ⊥)
 
   -- a state short of stop, where no step is left
   abbrev Short : S → Type 0
-  Short s = (run zero s ≡ out s) × Stays s (out s)
+  Short s = (r .run zero s ≡ r .out s) × Stays s (r .out s)
 
-  -- what comes at a state: its end, whatever the limit; or a step, that fails or leads on
-  pub data Turn (s : S) : Type 0 where
-    ends : (e : E) → ((limit : ℕ) → run limit s ≡ e) → completed e ≤ steps s → (Arrived e → steps s ≤ completed e) → Turn s
-    fails : (e : E) → ((limit : ℕ) → run (suc limit) s ≡ e) → Stays s e → Short s → Turn s
-    goes : (t : S) → ((limit : ℕ) → run (suc limit) s ≡ run limit t) → steps t ≡ suc (steps s) → Short s → Turn s
+  -- the end at a state, whatever the limit
+  record Ends (s : S) (e : E) : Type 0 where
+    always : (limit : ℕ) → r .run limit s ≡ e
+    most : r .completed e ≤ r .steps s
+    least : r .Arrived e → r .steps s ≤ r .completed e
+
+  -- a step that leads on
+  record Goes (s t : S) : Type 0 where
+    on : (limit : ℕ) → r .run (suc limit) s ≡ r .run limit t
+    one : r .steps t ≡ suc (r .steps s)
+    short : Short s
+
+  -- what comes at a state: its end; or a step, that fails or leads on
+  data Turn (s : S) : Type 0 where
+    ends : (e : E) → Ends s e → Turn s
+    fails : (e : E) → ((limit : ℕ) → r .run (suc limit) s ≡ e) → Stays s e → Short s → Turn s
+    goes : (t : S) → Goes s t → Turn s
 
   -- a run from a state that ended so, with another limit
-  pub record Limited (s : S) (e : E) (other : ℕ) : Type 0 where
-    pub counts : Arrived e → steps s ≤ completed e
-    pub enough : Arrived e → completed e ≤ steps s + other → run other s ≡ e
-    pub short : steps s + other < completed e → (t : S) × (run other s ≡ out t) × (steps t ≡ steps s + other)
+  record Limited (s : S) (e : E) (other : ℕ) : Type 0 where
+    counts : r .Arrived e → r .steps s ≤ r .completed e
+    enough : r .Arrived e → r .completed e ≤ r .steps s + other → r .run other s ≡ e
+    short : r .steps s + other < r .completed e → (t : S) × (r .run other s ≡ r .out t) × (r .steps t ≡ r .steps s + other)
 
   limited-stays : (s : S) (e : E) (other : ℕ) → Stays s e → Limited s e other
   limited-stays s e other h =
       record { counts = λ a. absurd (h .1 a); enough = λ a f. absurd (h .1 a); short = λ f. absurd (omega (arith, h .0)) }
 
-  limited-ends : (s : S) (e : E) (other : ℕ) → ((limit : ℕ) → run limit s ≡ e) → completed e ≤ steps s → (Arrived e → steps s ≤ completed e) → Limited s e other
-  limited-ends s e other q h c = record { counts = c; enough = λ a f. q other; short = λ f. absurd (omega arith) }
+  limited-ends : (s : S) (e : E) (other : ℕ) → Ends s e → Limited s e other
+  limited-ends s e other h = record { counts = h .least; enough = λ a f. h .always other; short = λ f. absurd (omega (arith, h .most)) }
 
-  limited-goes : (s t : S) (e : E) (other : ℕ) → ((limit : ℕ) → run (suc limit) s ≡ run limit t) → steps t ≡ suc (steps s) → Short s
-      → ((other : ℕ) → Limited t e other) → Limited s e other
-  limited-goes s t e zero q n z h = record {
-    counts = λ a. omega (arith, h 0 .counts a);
-    enough = λ a f. absurd (omega (arith, h 0 .counts a));
-    short = λ f. (s, z .0, omega arith);
+  limited-goes : (s t : S) (e : E) (other : ℕ) → Goes s t → ((other : ℕ) → Limited t e other) → Limited s e other
+  limited-goes s t e zero g h = record {
+    counts = λ a. omega (arith, g .one, h 0 .counts a);
+    enough = λ a f. absurd (omega (arith, g .one, h 0 .counts a));
+    short = λ f. (s, g .short .0, omega arith);
   }
-  limited-goes s t e (suc other) q n z h = record {
-    counts = λ a. omega (arith, h other .counts a);
-    enough = λ a f. q other ∙ h other .enough a (omega arith);
+  limited-goes s t e (suc other) g h = record {
+    counts = λ a. omega (arith, g .one, h other .counts a);
+    enough = λ a f. g .on other ∙ h other .enough a (omega (arith, g .one));
     short = λ f.
-        let rest = h other .short (omega arith) in
-        (rest .0, q other ∙ rest .1, omega (arith, rest .2));
+        let rest = h other .short (omega (arith, g .one)) in
+        (rest .0, g .on other ∙ rest .1, omega (arith, g .one, rest .2));
   }
 
   module _ (turn : (s : S) → Turn s) where
-    pub limited : (limit : ℕ) (s : S) (other : ℕ) → Limited s (run limit s) other
+    limited : (limit : ℕ) (s : S) (other : ℕ) → Limited s (r .run limit s) other
     limited zero s other = go (turn s)
       where
-        go : Turn s → Limited s (run zero s) other
-        go (ends e q h c) = rw (q zero) (limited-ends s e other q h c)
-        go (fails e q h z) = rw (z .0) (limited-stays s (out s) other (z .1))
-        go (goes t q n z) = rw (z .0) (limited-stays s (out s) other (z .1))
+        go : Turn s → Limited s (r .run zero s) other
+        go (ends e h) = rw (h .always zero) (limited-ends s e other h)
+        go (fails e q h z) = rw (z .0) (limited-stays s (r .out s) other (z .1))
+        go (goes t g) = rw (g .short .0) (limited-stays s (r .out s) other (g .short .1))
     limited (suc limit) s other = go (turn s) (λ t. limited limit t)
       where
-        go : Turn s → ((t : S) (other : ℕ) → Limited t (run limit t) other) → Limited s (run (suc limit) s) other
-        go (ends e q h c) f = rw (q (suc limit)) (limited-ends s e other q h c)
+        go : Turn s → ((t : S) (other : ℕ) → Limited t (r .run limit t) other) → Limited s (r .run (suc limit) s) other
+        go (ends e h) f = rw (h .always (suc limit)) (limited-ends s e other h)
         go (fails e q h z) f = rw (q limit) (limited-stays s e other h)
-        go (goes t q n z) f = rw (q limit) (limited-goes s t (run limit t) other q n z (f t))
+        go (goes t g) f = rw (g .on limit) (limited-goes s t (r .run limit t) other g (f t))
 
 -- the lane run
 module _ (p : Program) (l : Setup) where
-  abbrev out : LaneState → Ended
-  out s = record { state = s; answer = refuse 3 0 }
+  abbrev laneLimiting : Limiting LaneState Ended
+  laneLimiting = record {
+    run = run p l;
+    out = λ s. record { state = s; answer = refuse 3 0 };
+    steps = λ s. s .steps;
+    completed = λ e. e .state .steps;
+    Arrived = λ e. e .state .pc ≡ stop;
+  }
 
-  abbrev LaneTurn : LaneState → Type 0
-  LaneTurn = Turn (run p l) out (λ s. s .steps) (λ e. e .state .steps) (λ e. e .state .pc ≡ stop)
-
-  lane-turn : (s : LaneState) → LaneTurn s
+  lane-turn : (s : LaneState) → Turn laneLimiting s
   lane-turn s = go (eqb (s .pc) stop) refl (step p l s) refl
     where
       stays : eqb (s .pc) stop ≡ false → (s .steps ≤ s .steps) × (s .pc ≡ stop → ⊥)
       stays b = (omega arith, eqb-false _ _ b)
 
-      go : (b : Bool) → eqb (s .pc) stop ≡ b → (m : Tested LaneState) → step p l s ≡ m → LaneTurn s
-      go true b m d = ends _ (λ limit. run-stop p l limit s b) (omega arith) (λ a. omega arith)
-      go false b (passed t) d = goes t (λ limit. run-next p l limit s t b d) (step-steps p l s t d) (run-out p l s b, stays b)
+      go : (b : Bool) → eqb (s .pc) stop ≡ b → (m : Tested LaneState) → step p l s ≡ m → Turn laneLimiting s
+      go true b m d = ends _ (record { always = λ limit. run-stop p l limit s b; most = omega arith; least = λ a. omega arith })
+      go false b (passed t) d = goes t (record { on = λ limit. run-next p l limit s t b d; one = step-steps p l s t d; short = (run-out p l s b, stays b) })
       go false b (refused r) d = fails _ (λ limit. run-refused p l limit s r b d) (stays b) (run-out p l s b, stays b)
 
   -- from the run's first state, which has no steps
   lane-limited : (limit : ℕ) (s : LaneState) (other : ℕ) → start p l ≡ passed s
-      → Limited (run p l) out (λ s. s .steps) (λ e. e .state .steps) (λ e. e .state .pc ≡ stop) s (run p l limit s) other × (s .steps ≡ 0)
+      → Limited laneLimiting s (run p l limit s) other × (s .steps ≡ 0)
   unfolding begin
-  lane-limited limit s other q = (limited _ _ _ _ _ lane-turn limit s other, ap (λ (x : LaneState). x .steps) (kept-start p l s q .1))
+  lane-limited limit s other q = (limited laneLimiting lane-turn limit s other, ap (λ (x : LaneState). x .steps) (kept-start p l s q .1))
 
   pub limit-enough : LimitEnough p l
   unfolding laneRun on
@@ -152,10 +173,10 @@ module _ (p : Program) where
       let tested = through _ (counted .2) in
       ap answered (through _ (tested .2) .2)
 
-  abbrev ScalarTurn : ScalarState → Type 0
-  ScalarTurn = Turn (Scalar.run p) (λ _. none) (λ s. s .steps) answered Answers
+  abbrev scalarLimiting : Limiting ScalarState (Option Result)
+  scalarLimiting = record { run = Scalar.run p; out = λ _. none; steps = λ s. s .steps; completed = answered; Arrived = Answers }
 
-  scalar-turn : (s : ScalarState) → ScalarTurn s
+  scalar-turn : (s : ScalarState) → Turn scalarLimiting s
   unfolding Scalar.run choose Scalar._>>=_
   scalar-turn s = go (eqb (s .pc) stop) refl (Scalar.finish p s) refl (Scalar.step p s) refl
     where
@@ -163,11 +184,15 @@ module _ (p : Program) where
       at-stop b o q zero = rw b q
       at-stop b o q (suc limit) = rw b q
 
-      go : (b : Bool) → eqb (s .pc) stop ≡ b → (o : Option Result) → Scalar.finish p s ≡ o → (m : Option ScalarState) → Scalar.step p s ≡ m → ScalarTurn s
-      go true b none q m d = ends none (at-stop b none q) (omega arith) (λ a. absurd a)
-      go true b (some r) q m d = ends (some r) (at-stop b (some r) q) (omega (arith, scalar-finish-steps s r q)) (λ a. omega (arith, scalar-finish-steps s r q))
+      go : (b : Bool) → eqb (s .pc) stop ≡ b → (o : Option Result) → Scalar.finish p s ≡ o → (m : Option ScalarState) → Scalar.step p s ≡ m → Turn scalarLimiting s
+      go true b none q m d = ends none (record { always = at-stop b none q; most = omega arith; least = λ a. absurd a })
+      go true b (some r) q m d = ends (some r) (record {
+        always = at-stop b (some r) q;
+        most = omega (arith, scalar-finish-steps s r q);
+        least = λ a. omega (arith, scalar-finish-steps s r q);
+      })
       go false b o q none d = fails none (λ limit. rw (b, d)) (omega arith, λ a. a) (rw b, (omega arith, λ a. a))
-      go false b o q (some t) d = goes t (λ limit. rw (b, d)) (scalar-step-steps s t d) (rw b, (omega arith, λ a. a))
+      go false b o q (some t) d = goes t (record { on = λ limit. rw (b, d); one = scalar-step-steps s t d; short = (rw b, (omega arith, λ a. a)) })
 
   scalar-none-yet : (input : ℕ) (others : ℕ → ℕ) (s : ScalarState) → Scalar.start p input others ≡ some s → s .steps ≡ 0
   unfolding Scalar.start
@@ -182,6 +207,6 @@ module _ (p : Program) where
   unfolding scalarRun Scalar._>>=_
   scalar-limit limit other input others r q =
       let begun = through (Scalar.start p input others) q in
-      let f = rw (begun .2) at (limited (Scalar.run p) (λ _. none) (λ s. s .steps) answered Answers scalar-turn limit (begun .0) other) in
+      let f = rw (begun .2) at (limited scalarLimiting scalar-turn limit (begun .0) other) in
       let none-yet = scalar-none-yet input others (begun .0) (begun .1) in
       (λ h. rw (begun .1) (f .enough tt (omega (arith, none-yet))), λ h. rw (begun .1) (f .short (omega (arith, none-yet)) .1))

@@ -37,16 +37,16 @@ module _ (p : Program) (l : Setup) where
       go false e q = let f = from-passed (step p l b) q in (e, f .0, f .1, f .2)
 
   -- the state after one step more
-  after-next : (n : ℕ) (b s t : LaneState) → after p l n b ≡ some s → eqb (s .pc) stop ≡ false → step p l s ≡ passed t
+  after-next : (n : ℕ) (b : LaneState) {s t : LaneState} → after p l n b ≡ some s → eqb (s .pc) stop ≡ false → step p l s ≡ passed t
       → after p l (suc n) b ≡ some t
   unfolding after choose ifPassed
-  after-next zero b s t q e h = let f : b ≡ s = cc q in rw (f, e, h)
-  after-next (suc n) b s t q e h = let f = first-step n b s q in rw (f .0, f .2) (after-next n (f .1) s t (f .3) e h)
+  after-next zero b {s} q e h = let f : b ≡ s = cc q in rw (f, e, h)
+  after-next (suc n) b {s} q e h = let f = first-step n b s q in rw (f .0, f .2) (after-next n (f .1) (f .3) e h)
 
   pub reached-next : (n : ℕ) (s t : LaneState) → reached p l n ≡ some s → eqb (s .pc) stop ≡ false → step p l s ≡ passed t
       → reached p l (suc n) ≡ some t
   unfolding reached ifPassed
-  reached-next n s t q e h = let f = from-passed (start p l) q in rw (f .1) (after-next n (f .0) s t (f .2) e h)
+  reached-next n s t q e h = let f = from-passed (start p l) q in rw (f .1) (after-next n (f .0) (f .2) e h)
 
   kept-after : (n : ℕ) (b s : LaneState) → Kept p l b → after p l n b ≡ some s → Kept p l s
   unfolding after

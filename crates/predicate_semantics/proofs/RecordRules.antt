@@ -14,13 +14,13 @@ use Rattle.riscv32imc.specs.Arithmetic.{target}
 use Rattle.riscv32imc.specs.Bits.{join}
 use Rattle.riscv_decode.specs.declared.Fetched.{Fetched}
 use Rattle.riscv_decode.specs.declared.Operation.{Operation}
-use Rattle.riscv_decode.specs.declared.Operation.the-variants.{Lui, Auipc, Jal, Jalr, Beq, Bne, Blt, Bge, Bltu, Bgeu, Lb, Lh, Lw, Lbu, Lhu, Sb, Sh, Sw, Addi, Slti, Sltiu, Xori, Ori, Andi, Slli, Srli, Srai, Add, Sub, Sll, Slt, Sltu, Xor, Srl, Sra, Or, And, Mul, Div, Divu, Rem, Remu, Fence, FenceI}
 use Rattle.lane_word.specs.declared.LaneWord.{LaneWord}
 use Rattle.lane_word.specs.declared.Uniform.the-variants.{Value, Unknown, Uneven}
 use Rattle.lane_word.specs.Word.{unknown, constant, domain, zip, unary, binary, every, uniformOf, inputs}
 use Rattle.predicate_action.specs.declared.Action.{Action}
 use Rattle.predicate_action.specs.declared.Action.the-variants.{Nothing, Literal, Compute, ComputeImmediate, Jump, JumpTo, Branch, Load, Store}
 use Rattle.predicate_action.specs.Meaning.{meaning}
+use Rattle.predicate_action.proofs.Targets.{Leads, meaning-leads}
 use Rattle.predicate_semantics.specs.declared.CompiledMmioEvent.{CompiledMmioEvent}
 use Rattle.predicate_semantics.specs.declared.PredicateControlStep.{PredicateControlStep}
 use Rattle.predicate_semantics.specs.declared.Rv32SymbolLayout.{Rv32SymbolLayout}
@@ -75,65 +75,6 @@ either-fits : (b : Bool) (x y : ℕ) → x < 2 ^ 32 → y < 2 ^ 32 → choose b 
 unfolding choose
 either-fits true x y h g = h
 either-fits false x y h g = g
-
--- where a jump or a branch leads
-abbrev Leads : Action → Type 0
-Leads Nothing = Unit {0}
-Leads (Literal rd v) = Unit {0}
-Leads (Compute rd f a b) = Unit {0}
-Leads (ComputeImmediate rd f a n) = Unit {0}
-Leads (Jump rd to) = to < 2 ^ 32
-Leads (JumpTo rd a offset) = Unit {0}
-Leads (Branch f a b to) = to < 2 ^ 32
-Leads (Load rd a offset n e) = Unit {0}
-Leads (Store a b offset n) = Unit {0}
-
-meaning-leads : (o : Operation) (pc : ℕ) → Leads (meaning o pc)
-unfolding meaning
-meaning-leads (Lui v) pc = tt
-meaning-leads (Auipc v) pc = tt
-meaning-leads (Jal v) pc = omega arith
-meaning-leads (Jalr v) pc = tt
-meaning-leads (Beq v) pc = omega arith
-meaning-leads (Bne v) pc = omega arith
-meaning-leads (Blt v) pc = omega arith
-meaning-leads (Bge v) pc = omega arith
-meaning-leads (Bltu v) pc = omega arith
-meaning-leads (Bgeu v) pc = omega arith
-meaning-leads (Lb v) pc = tt
-meaning-leads (Lh v) pc = tt
-meaning-leads (Lw v) pc = tt
-meaning-leads (Lbu v) pc = tt
-meaning-leads (Lhu v) pc = tt
-meaning-leads (Sb v) pc = tt
-meaning-leads (Sh v) pc = tt
-meaning-leads (Sw v) pc = tt
-meaning-leads (Addi v) pc = tt
-meaning-leads (Slti v) pc = tt
-meaning-leads (Sltiu v) pc = tt
-meaning-leads (Xori v) pc = tt
-meaning-leads (Ori v) pc = tt
-meaning-leads (Andi v) pc = tt
-meaning-leads (Slli v) pc = tt
-meaning-leads (Srli v) pc = tt
-meaning-leads (Srai v) pc = tt
-meaning-leads (Add v) pc = tt
-meaning-leads (Sub v) pc = tt
-meaning-leads (Sll v) pc = tt
-meaning-leads (Slt v) pc = tt
-meaning-leads (Sltu v) pc = tt
-meaning-leads (Xor v) pc = tt
-meaning-leads (Srl v) pc = tt
-meaning-leads (Sra v) pc = tt
-meaning-leads (Or v) pc = tt
-meaning-leads (And v) pc = tt
-meaning-leads (Mul v) pc = tt
-meaning-leads (Div v) pc = tt
-meaning-leads (Divu v) pc = tt
-meaning-leads (Rem v) pc = tt
-meaning-leads (Remu v) pc = tt
-meaning-leads Fence pc = tt
-meaning-leads FenceI pc = tt
 
 -- a step adds at most one location
 recorded-few : (c pc a n : ℕ) (ls : List ℕ) → length (recorded c pc a n ls) ≤ suc (length ls)
@@ -202,32 +143,36 @@ module _ (p : Program) (l : Setup) where
   room {ws} h d =
       omega (arith, distinct-fits (imageEnd p) (maxMemoryBytes - length (p .image)) ws (subst (λ (x : ℕ). Distinct (imageEnd p) x ws) (omega arith) d))
 
-  kept-advance : {s : LaneState} (f : Fetched) (next : ℕ) (registers : List LaneWord) (ws : List Written) (locations : List ℕ)
-      → Kept s → Short f → s .steps < l .entries → next < 2 ^ 32 → Stored ws → length locations ≤ suc (length (s .locations))
-      → Kept (advanced s f next registers ws locations)
+  -- a step from a kept state that has a trace entry
+  record Enters (s : LaneState) (f : Fetched) : Type 0 where
+    kept : Kept s
+    instruction : Short f
+    lent : s .steps < l .entries
+
+  kept-advanced : {s : LaneState} {f : Fetched} {next : ℕ} (registers : List LaneWord) {ws : List Written} (locations : List ℕ)
+      → Enters s f → next < 2 ^ 32 → Stored ws → length locations ≤ suc (length (s .locations)) → Kept (advanced s f next registers ws locations)
   unfolding advanced
-  kept-advance {s} f next registers ws locations k b e n stored few = record {
-    fits = k .fits;
+  kept-advanced {s} registers locations h n stored few = record {
+    fits = h .kept .fits;
     small = n;
     traced = record {
-      counted = simp length-append (omega (arith, k .traced .counted));
-      entered = e;
-      chained = chain-add (p .symbols .entry) (s .pc) (s .trace) _ (k .traced .chained) refl (b .size);
-      words = λ x. words-add (s .trace) _ (k .traced .words x) (k .small) (b .word-fits x) n;
+      counted = simp length-append (omega (arith, h .kept .traced .counted));
+      entered = h .lent;
+      chained = chain-add (p .symbols .entry) (s .pc) (s .trace) _ (h .kept .traced .chained) refl (h .instruction .size);
+      words = λ x. words-add (s .trace) _ (h .kept .traced .words x) (h .kept .small) (h .instruction .word-fits x) n;
     };
     stored = stored;
-    located = omega (arith, few, k .located);
+    located = omega (arith, few, h .kept .located);
   }
 
-  kept-apply : {s : LaneState} (f : Fetched) (e : Effect LaneWord) → Kept s → Short f → Clear s e → s .steps < l .entries
-      → Kept (apply write (p .symbols .«event_count») s f e)
+  kept-apply : {s : LaneState} {f : Fetched} (e : Effect LaneWord) → Enters s f → Clear s e → Kept (apply write (p .symbols .«event_count») s f e)
   unfolding apply
-  kept-apply f (goes next) k b c t = kept-advance f next _ _ _ k b t c (k .stored) (omega arith)
-  kept-apply f (sets rd value next) k b c t = kept-advance f next _ _ _ k b t c (k .stored) (omega arith)
-  kept-apply {s} f (stores a n value next) k b c t = kept-advance f next _ _ _ k b t (c .0) (record {
-    least = le-trans (k .stored .least) (write-grows n (s .memory) a value);
+  kept-apply (goes next) h c = kept-advanced _ _ h c (h .kept .stored) (omega arith)
+  kept-apply (sets rd value next) h c = kept-advanced _ _ h c (h .kept .stored) (omega arith)
+  kept-apply {s} (stores a n value next) h c = kept-advanced _ _ h (c .0) (record {
+    least = le-trans (h .kept .stored .least) (write-grows n (s .memory) a value);
     most = c .3;
-    distinct = distinct-write n a value (c .1) (c .2) (k .stored .distinct);
+    distinct = distinct-write n a value (c .1) (c .2) (h .kept .stored .distinct);
   }) (recorded-few (p .symbols .«event_count») (s .pc) a n (s .locations))
 
   -- the value that lanes agree on is lane 0's
@@ -306,7 +251,7 @@ module _ (p : Program) (l : Setup) where
   always-step s k =
       bind (always-attempt s) (λ seen h.
       bind (always-require 14 _ tt) (λ u t.
-      gives (kept-apply (seen .fetched) (seen .effect) k (h .0) (h .1) (ltb→lt _ _ t), steps-apply write _ s (seen .fetched) (seen .effect))))
+      gives (kept-apply (seen .effect) (record { kept = k; instruction = h .0; lent = ltb→lt _ _ t }) (h .1), steps-apply write _ s (seen .fetched) (seen .effect))))
 
   always-eventAt : (m : LaneBytes) (a location : ℕ) → Always (λ _. Unit {0}) (eventAt (l .inputs) m a location)
   unfolding eventAt
@@ -365,11 +310,11 @@ module _ (p : Program) (l : Setup) where
   ends-choose most true f g x y = x refl
   ends-choose most false f g x y = y refl
 
-  ends-on : {P : LaneState → Type 0} (most : ℕ) (s : LaneState) {m : Tested LaneState} (f : LaneState → Ended)
+  ends-on : {P : LaneState → Type 0} (most : ℕ) {s : LaneState} {m : Tested LaneState} (f : LaneState → Ended)
       → Traced s → s .steps ≤ most → Always P m → ((t : LaneState) → P t → Ends most (f t)) → Ends most (on s m f)
   unfolding on
-  ends-on most s f k b (stops r t) h = (k, b, stops r t)
-  ends-on most s f k b (gives x) h = h _ x
+  ends-on most f k b (stops r t) h = (k, b, stops r t)
+  ends-on most f k b (gives x) h = h _ x
 
   ends-stop : (most : ℕ) (s : LaneState) → Kept s → s .steps ≤ most → eqb (s .pc) stop ≡ true
       → Ends most (record { state = s; answer = finish p l s })
@@ -381,7 +326,7 @@ module _ (p : Program) (l : Setup) where
       ends-choose most (eqb (s .pc) stop) _ _ (ends-stop most s k (omega arith)) (λ e. (k .traced, omega arith, stops _ tt))
   ends-run (suc n) most s k b =
       ends-choose most (eqb (s .pc) stop) _ _ (ends-stop most s k (omega arith))
-      (λ e. ends-on most s _ (k .traced) (omega arith) (always-step s k) (λ t h. ends-run n most t (h .0) (omega (arith, h .1))))
+      (λ e. ends-on most _ (k .traced) (omega arith) (always-step s k) (λ t h. ends-run n most t (h .0) (omega (arith, h .1))))
 
   begin-traced : Traced (begin p l)
   unfolding begin
@@ -402,9 +347,9 @@ module _ (p : Program) (l : Setup) where
   }
 
   -- where a completed operation leads, and what it stores
-  pub effect-clear : (s : LaneState) (next pc : ℕ) (o : Operation) (e : Effect LaneWord) → next < 2 ^ 32
+  pub effect-clear : (s : LaneState) (next pc : ℕ) (o : Operation) {e : Effect LaneWord} → next < 2 ^ 32
       → execute p l s next (meaning o pc) ≡ passed e → Clear s e
-  effect-clear s next pc o e h q = passes (rw q at (always-execute s next (meaning o pc) h (meaning-leads o pc)))
+  effect-clear s next pc o h q = passes (rw q at (always-execute s next (meaning o pc) h (meaning-leads o pc)))
 
   pub kept-step : (s t : LaneState) → Kept s → step p l s ≡ passed t → Kept t
   kept-step s t k q = passes (rw q at (always-step s k)) .0
@@ -414,7 +359,7 @@ module _ (p : Program) (l : Setup) where
   always-startTests =
       bind (always-require 1 _ tt) (λ u small.
       bind (always-require 2 _ tt) (λ u within.
-      weaken (always-require 13 _ tt) (λ u rows. (fit small, entry-fits within, leb→le _ _ rows))))
+      weaken (always-require 13 _ tt) (λ u rows. (fit small, entry-fits within, omega (arith, leb→le _ (l .rows) rows)))))
 
   always-start : Always (λ s. Kept s × (s ≡ begin p l)) (start p l)
   unfolding start
@@ -426,7 +371,7 @@ module _ (p : Program) (l : Setup) where
   ends-laneRun : (limit : ℕ) → Ends limit (laneRun p l limit)
   unfolding laneRun begin
   ends-laneRun limit =
-      ends-on limit _ _ begin-traced (omega arith) always-start (λ s h. ends-run limit limit s (h .0) (rw (h .1) (omega arith)))
+      ends-on limit _ begin-traced (omega arith) always-start (λ s h. ends-run limit limit s (h .0) (rw (h .1) (omega arith)))
 
   pub completed : (limit : ℕ) → Completed p l limit ((laneRun p l limit) .state)
   completed limit = shown _ (ends-laneRun limit .0) (ends-laneRun limit .1)

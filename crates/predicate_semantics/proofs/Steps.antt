@@ -5,7 +5,7 @@ use mathlib.Core.Option.{Option, none, some, Option·none-ne-some}
 use mathlib.Core.List.{List, [], _∷_}
 use Prim.Native.Nat.{ℕ, zero, suc, _+_, _%_}
 use lib.Dec.{leb, eqb}
-use lib.ListN.{getElem?, length}
+use lib.ListN.{length}
 use Rattle.riscv32imc.specs.Arithmetic.{add, target}
 use Rattle.riscv32imc.specs.Constants.{imageBase}
 use Rattle.riscv32imc.specs.Value.{valueOf}
@@ -28,7 +28,7 @@ use Rattle.predicate_semantics.specs.Lane as Lane
 use Rattle.predicate_semantics.specs.Scalar.{Bytes, ScalarState}
 use Rattle.predicate_semantics.specs.Scalar as Scalar
 use Rattle.predicate_semantics.proofs.Sim.{Sim, stops, agrees, bind, bind-same, bind-lane, bind-value, bind-into, sim-require, sim-last, sim-found, sim-choose, sim-ended, bind-ended}
-use Rattle.predicate_semantics.proofs.Values.{At, at-unary, at-binary, at-unknown, sim-agreed, Regs, regs-at, regs-assign, regs-fill, at-start, Mem, at-constant, at-domain, at-read, mem-write, mem-initial}
+use Rattle.predicate_semantics.proofs.Values.{At, at-unary, at-binary, at-unknown, sim-agreed, Regs, regs-at, regs-assign, regs-fill, at-start, OneLane, In, Mem, at-constant, at-domain, at-read, mem-write, mem-initial}
 
 -- the scalar state with a lane state's progress
 abbrev pub view : LaneState → List ℕ → Bytes → ScalarState
@@ -46,31 +46,33 @@ sim-startTests : (size : ℕ) (symbols : Rv32SymbolLayout) (rows : ℕ) → Sim 
 unfolding Lane.startTests Scalar.startTests
 sim-startTests size symbols rows = bind-same (sim-require 1 _) (λ _. sim-last 13 _ (sim-require 2 _))
 
-module _ (image inputs : List ℕ) (k : ℕ) where
-  -- a scalar state that goes with a lane state, as lane k has it
-  pub data Related : LaneState → ScalarState → Type 0 where
-    related : {s : LaneState} {rs : List ℕ} {m : Bytes} → Regs (length inputs) k (s .registers) rs → Mem image inputs k (s .memory) m
-        → Related s (view s rs m)
+module _ {p : Program} {l : Setup} (x : OneLane p l) where
+  -- registers and memory of a scalar run, as the lane has those of a lane state
+  pub record Beside (s : LaneState) (rs : List ℕ) (m : Bytes) : Type 0 where
+    pub regs : Regs (length (l .inputs)) (x .number) (s .registers) rs
+    pub mem : Mem x (s .memory) m
 
-module _ (n k : ℕ) where
+  -- a scalar state that goes with a lane state
+  pub data Related : LaneState → ScalarState → Type 0 where
+    related : {s : LaneState} {rs : List ℕ} {m : Bytes} → Beside s rs m → Related s (view s rs m)
+
   pub data Same : Effect LaneWord → Effect ℕ → Type 0 where
     same-goes : (next : ℕ) → Same (goes next) (goes next)
-    same-sets : (rd : ℕ) {w : LaneWord} {v : ℕ} (next : ℕ) → At n k w v → Same (sets rd w next) (sets rd v next)
-    same-stores : (a b : ℕ) {w : LaneWord} {v : ℕ} (next : ℕ) → At n k w v → Same (stores a b w next) (stores a b v next)
+    same-sets : (rd : ℕ) {w : LaneWord} {v : ℕ} (next : ℕ) → In x w v → Same (sets rd w next) (sets rd v next)
+    same-stores : (a b : ℕ) {w : LaneWord} {v : ℕ} (next : ℕ) → In x w v → Same (stores a b w next) (stores a b v next)
 
   pub data Seen : Attempted LaneWord → Attempted ℕ → Type 0 where
     seen : (f : Fetched) {e : Effect LaneWord} {d : Effect ℕ} → Same e d → Seen (record { fetched = f; effect = e }) (record { fetched = f; effect = d })
 
-module _ (p : Program) (l : Setup) (k input : ℕ) (here : getElem? (l .inputs) k ≡ some input) where
-  module _ (ws : List Written) (m : Bytes) (mem : Mem (p .image) (l .inputs) k ws m) where
+  module _ {ws : List Written} {m : Bytes} (mem : Mem x ws m) where
     abbrev bytes : LaneBytes
     bytes = laneBytes (p .image) (length (l .inputs)) ws
 
-    pub sim-access : (n a : ℕ) → Sim (At (length (l .inputs)) k) (Lane.access (l .inputs) bytes n a) (Scalar.access m n a)
+    sim-access : (n a : ℕ) → Sim (In x) (Lane.access (l .inputs) bytes n a) (Scalar.access m n a)
     unfolding Lane.access Scalar.access
-    sim-access n a = bind-same (sim-inside a n) (λ _. agrees (at-read (p .image) (l .inputs) k input here ws m mem n a))
+    sim-access n a = bind-same (sim-inside a n) (λ _. agrees (at-read x mem n a))
 
-    pub sim-accessAgreed : (role n a : ℕ) → Sim _≡_ (Lane.accessAgreed (l .inputs) role bytes n a) (Scalar.access m n a)
+    sim-accessAgreed : (role n a : ℕ) → Sim _≡_ (Lane.accessAgreed (l .inputs) role bytes n a) (Scalar.access m n a)
     unfolding Lane.accessAgreed
     sim-accessAgreed role n a = bind-into (sim-access n a) (λ w v h. sim-agreed role h)
 
@@ -85,125 +87,113 @@ module _ (p : Program) (l : Setup) (k input : ℕ) (here : getElem? (l .inputs) 
         → Sim _≡_ (Lane.events (l .inputs) from bytes i done ls) (Scalar.events from m i done ls)
     unfolding Lane.events Scalar.events
     sim-events from i done [] = agrees refl
-    sim-events from i done (x ∷ ls) =
-        bind-same (sim-eventAt _ x) (λ e. sim-events from (suc i) _ ls)
+    sim-events from i done (location ∷ ls) = bind-same (sim-eventAt _ location) (λ e. sim-events from (suc i) _ ls)
 
-  module _ (s : LaneState) (rs : List ℕ) (m : Bytes)
-      (regs : Regs (length (l .inputs)) k (s .registers) rs) (mem : Mem (p .image) (l .inputs) k (s .memory) m) where
+  module _ {s : LaneState} {rs : List ℕ} {m : Bytes} (h : Beside s rs m) where
     sim-decodeWord : (word n : ℕ) → Sim _≡_ (Lane.decodeWord (p .core) (s .steps) word n) (Scalar.decodeWord p (view s rs m) word n)
     unfolding Lane.decodeWord Scalar.decodeWord
     sim-decodeWord word n = bind-same (sim-found 9 _) (λ operation. agrees refl)
 
-    pub sim-fetch : Sim _≡_ (Lane.fetch (l .inputs) (p .core) (Lane.memoryOf p l s) (s .steps) (s .pc)) (Scalar.fetch p (view s rs m))
+    sim-fetch : Sim _≡_ (Lane.fetch (l .inputs) (p .core) (Lane.memoryOf p l s) (s .steps) (s .pc)) (Scalar.fetch p (view s rs m))
     unfolding Lane.fetch Scalar.fetch Lane.fetchFour Scalar.fetchFour Lane.expandHalfword Scalar.expandHalfword Lane.memoryOf laneCount
-    sim-fetch = bind-same (sim-accessAgreed (s .memory) m mem 1 2 _) (λ half.
+    sim-fetch = bind-same (sim-accessAgreed (h .mem) 1 2 _) (λ half.
         sim-choose (eqb (half % 4) 3)
-        (λ _. bind-same (sim-accessAgreed (s .memory) m mem 1 4 _) (λ word. sim-decodeWord word 4))
+        (λ _. bind-same (sim-accessAgreed (h .mem) 1 4 _) (λ word. sim-decodeWord word 4))
         (λ _. bind-same (sim-found 8 (p .core .expand half)) (λ word. sim-decodeWord word 2)))
 
-    pub at-reg : (i : ℕ) → At (length (l .inputs)) k (reg p l s i) (Scalar.reg (view s rs m) i)
+    pub at-reg : (i : ℕ) → In x (reg p l s i) (Scalar.reg (view s rs m) i)
     unfolding reg Scalar.reg laneCount
-    at-reg i = regs-at regs i
+    at-reg i = regs-at (h .regs) i
 
-    whole : (v : ℕ) → At (length (l .inputs)) k (constant (length (l .inputs)) v) v
-    whole v = at-constant (p .image) (l .inputs) k input here v
-
-    pub sim-execute : (next : ℕ) (d : Action)
-        → Sim (Same (length (l .inputs)) k) (Lane.execute p l s next d) (Scalar.execute p (view s rs m) next d)
+    sim-execute : (next : ℕ) (a : Action) → Sim (Same) (Lane.execute p l s next a) (Scalar.execute p (view s rs m) next a)
     unfolding Lane.execute Scalar.execute Lane.memoryOf laneCount
     sim-execute next Nothing = agrees (same-goes next)
-    sim-execute next (Literal rd v) = agrees (same-sets rd next (whole v))
+    sim-execute next (Literal rd v) = agrees (same-sets rd next (at-constant x v))
     sim-execute next (Compute rd f a b) = agrees (same-sets rd next (at-binary (valueOf f) (at-reg a) (at-reg b)))
-    sim-execute next (ComputeImmediate rd f a n) = agrees (same-sets rd next (at-binary (valueOf f) (at-reg a) (whole n)))
-    sim-execute next (Jump rd to) = agrees (same-sets rd to (whole next))
+    sim-execute next (ComputeImmediate rd f a n) = agrees (same-sets rd next (at-binary (valueOf f) (at-reg a) (at-constant x n)))
+    sim-execute next (Jump rd to) = agrees (same-sets rd to (at-constant x next))
     sim-execute next (JumpTo rd a offset) =
         bind-value _ (sim-agreed 2 (at-unary (λ v. target v offset) (at-reg a)))
-        (bind-same (sim-require 10 _) (λ _. agrees (same-sets rd _ (whole next))))
+        (bind-same (sim-require 10 _) (λ _. agrees (same-sets rd _ (at-constant x next))))
     sim-execute next (Branch f a b to) =
         bind-value _ (sim-agreed 5 (at-binary (valueOf f) (at-reg a) (at-reg b))) (agrees (same-goes _))
     sim-execute next (Load rd a offset n e) =
         bind-value _ (sim-agreed 3 (at-unary (λ v. add v offset) (at-reg a)))
-        (bind (sim-access (s .memory) m mem n _) (λ w v h. agrees (same-sets rd next (at-unary (extensionOf e) h))))
+        (bind (sim-access (h .mem) n _) (λ w v g. agrees (same-sets rd next (at-unary (extensionOf e) g))))
     sim-execute next (Store a b offset n) =
         bind-value _ (sim-agreed 4 (at-unary (λ v. add v offset) (at-reg a)))
         (bind-same (sim-roomFor _ _ _ n _) (λ _. agrees (same-stores _ n next (at-reg b))))
 
-    pub sim-attempt : Sim (Seen (length (l .inputs)) k) (Lane.attempt p l s) (Scalar.attempt p (view s rs m))
+    sim-attempt : Sim (Seen) (Lane.attempt p l s) (Scalar.attempt p (view s rs m))
     unfolding Lane.attempt Scalar.attempt
     sim-attempt =
         bind-same sim-fetch (λ fetched.
-        bind (sim-execute _ _) (λ e d h. agrees (seen fetched h)))
+        bind (sim-execute _ _) (λ e d g. agrees (seen fetched g)))
 
-    apply-related : (c : ℕ) (f : Fetched) {e : Effect LaneWord} {d : Effect ℕ} → Same (length (l .inputs)) k e d
-        → Related (p .image) (l .inputs) k (apply Memory.write c s f e) (apply Scalar.write c (view s rs m) f d)
+    apply-related : (c : ℕ) (f : Fetched) {e : Effect LaneWord} {d : Effect ℕ} → Same e d
+        → Related (apply Memory.write c s f e) (apply Scalar.write c (view s rs m) f d)
     unfolding apply advanced
-    apply-related c f (same-goes n) = related regs mem
-    apply-related c f (same-sets rd n h) = related (regs-assign regs rd h) mem
-    apply-related c f (same-stores a z n h) = related regs (mem-write (p .image) (l .inputs) k input here z _ _ mem a _ _ h)
+    apply-related c f (same-goes n) = related (record { regs = h .regs; mem = h .mem })
+    apply-related c f (same-sets rd n g) = related (record { regs = regs-assign (h .regs) rd g; mem = h .mem })
+    apply-related c f (same-stores a z n g) = related (record { regs = h .regs; mem = mem-write x z (h .mem) a g })
 
-    seen-related : (c : ℕ) {a : Attempted LaneWord} {b : Attempted ℕ} → Seen (length (l .inputs)) k a b
-        → Related (p .image) (l .inputs) k (apply Memory.write c s (a .fetched) (a .effect)) (apply Scalar.write c (view s rs m) (b .fetched) (b .effect))
-    seen-related c (seen f h) = apply-related c f h
+    seen-related : (c : ℕ) {a : Attempted LaneWord} {b : Attempted ℕ} → Seen a b
+        → Related (apply Memory.write c s (a .fetched) (a .effect)) (apply Scalar.write c (view s rs m) (b .fetched) (b .effect))
+    seen-related c (seen f g) = apply-related c f g
 
-    pub sim-step : Sim (Related (p .image) (l .inputs) k) (Lane.step p l s) (Scalar.step p (view s rs m))
+    sim-step : Sim (Related) (Lane.step p l s) (Scalar.step p (view s rs m))
     unfolding Lane.step Scalar.step
-    sim-step = bind sim-attempt (λ a b h. bind-lane (require 14 _) (λ _. agrees (seen-related _ h)))
+    sim-step = bind sim-attempt (λ a b g. bind-lane (require 14 _) (λ _. agrees (seen-related _ g)))
 
-    pub sim-finish : Sim _≡_ (Lane.finish p l s) (Scalar.finish p (view s rs m))
+    sim-finish : Sim _≡_ (Lane.finish p l s) (Scalar.finish p (view s rs m))
     unfolding Lane.finish Lane.finishEvents Scalar.finish Lane.memoryOf laneCount
     sim-finish =
         bind-value _ (sim-agreed 6 (at-reg 10))
-        (bind-same (sim-accessAgreed (s .memory) m mem 7 4 _) (λ count.
+        (bind-same (sim-accessAgreed (h .mem) 7 4 _) (λ count.
         bind-same (sim-require 12 _) (λ _.
-        bind-same (sim-events (s .memory) m mem _ _ _ _) (λ es. agrees refl))))
+        bind-same (sim-events (h .mem) _ _ _ _) (λ es. agrees refl))))
 
   -- where the lane run reaches a state, the scalar run reaches one that goes with it
   abbrev Along : LaneState → Option ScalarState → Type 0
-  Along u o = (v : ScalarState) × (o ≡ some v) × Related (p .image) (l .inputs) k u v
+  Along u o = (v : ScalarState) × (o ≡ some v) × Related u v
 
-  along : {m : Tested LaneState} {o : Option ScalarState} (f : LaneState → Option LaneState) (g : ScalarState → Option ScalarState) (u : LaneState)
-      → Sim (Related (p .image) (l .inputs) k) m o
-      → ((s : LaneState) (t : ScalarState) → Related (p .image) (l .inputs) k s t → f s ≡ some u → Along u (g t)) → ifPassed m f ≡ some u → Along u (Scalar._>>=_ o g)
+  along : {t : Tested LaneState} {o : Option ScalarState} (f : LaneState → Option LaneState) (g : ScalarState → Option ScalarState) (u : LaneState)
+      → Sim (Related) t o → ((s : LaneState) (t : ScalarState) → Related s t → f s ≡ some u → Along u (g t)) → ifPassed t f ≡ some u → Along u (Scalar._>>=_ o g)
   unfolding ifPassed Scalar._>>=_
   along f g u stops h q = absurd (Option·none-ne-some u q)
   along f g u (agrees r) h q = h _ _ r q
 
   -- n completed steps of the lane run are n completed steps of the scalar run
-  pub sim-after : (n : ℕ) {s : LaneState} {t : ScalarState} → Related (p .image) (l .inputs) k s t
-      → (u : LaneState) → Lane.after p l n s ≡ some u → Along u (Scalar.after p n t)
+  sim-after : (n : ℕ) {s : LaneState} {t : ScalarState} → Related s t → (u : LaneState) → Lane.after p l n s ≡ some u → Along u (Scalar.after p n t)
   unfolding Lane.after Scalar.after choose
-  sim-after zero {s} {t} r u q = let e : s ≡ u = cc q in (t, refl, subst (λ (x : LaneState). Related (p .image) (l .inputs) k x t) e r)
-  sim-after (suc n) (related {s} {rs} {m} regs mem) u q = go (eqb (s .pc) stop) (λ s t r. sim-after n r u) q
+  sim-after zero {s} {t} r u q = let e : s ≡ u = cc q in (t, refl, subst (λ (y : LaneState). Related y t) e r)
+  sim-after (suc n) (related {s} {rs} {m} b) u q = go (eqb (s .pc) stop) (λ s t r. sim-after n r u) q
     where
-      go : (b : Bool) → ((s : LaneState) (t : ScalarState) → Related (p .image) (l .inputs) k s t → Lane.after p l n s ≡ some u → Along u (Scalar.after p n t))
-          → choose b (λ _. none) (λ _. ifPassed (Lane.step p l s) (λ t. Lane.after p l n t)) ≡ some u
-          → Along u (choose b (λ _. none) (λ _. Scalar._>>=_ (Scalar.step p (view s rs m)) (λ t. Scalar.after p n t)))
+      go : (c : Bool) → ((s : LaneState) (t : ScalarState) → Related s t → Lane.after p l n s ≡ some u → Along u (Scalar.after p n t))
+          → choose c (λ _. none) (λ _. ifPassed (Lane.step p l s) (λ t. Lane.after p l n t)) ≡ some u
+          → Along u (choose c (λ _. none) (λ _. Scalar._>>=_ (Scalar.step p (view s rs m)) (λ t. Scalar.after p n t)))
       go true h q = absurd (Option·none-ne-some u q)
-      go false h q = along _ _ u (sim-step s rs m regs mem) h q
+      go false h q = along _ _ u (sim-step b) h q
 
-  pub sim-run : (n : ℕ) {s : LaneState} {t : ScalarState} → Related (p .image) (l .inputs) k s t
-      → Sim _≡_ ((Lane.run p l n s) .answer) (Scalar.run p n t)
+  sim-run : (n : ℕ) {s : LaneState} {t : ScalarState} → Related s t → Sim _≡_ ((Lane.run p l n s) .answer) (Scalar.run p n t)
   unfolding Lane.run Scalar.run refuse
-  sim-run zero (related {s} {rs} {m} regs mem) =
-      sim-ended (eqb (s .pc) stop) _ _ (λ _. sim-finish s rs m regs mem) (λ _. stops)
-  sim-run (suc n) (related {s} {rs} {m} regs mem) =
-      sim-ended (eqb (s .pc) stop) _ _ (λ _. sim-finish s rs m regs mem)
-      (λ _. bind-ended s _ (sim-step s rs m regs mem) (λ a b r. sim-run n r))
+  sim-run zero (related {s} b) = sim-ended (eqb (s .pc) stop) _ _ (λ _. sim-finish b) (λ _. stops)
+  sim-run (suc n) (related {s} b) =
+      sim-ended (eqb (s .pc) stop) _ _ (λ _. sim-finish b)
+      (λ _. bind-ended s _ (sim-step b) (λ s t r. sim-run n r))
 
-  pub sim-start : (others : ℕ → ℕ) → Sim (Related (p .image) (l .inputs) k) (Lane.start p l) (Scalar.start p input others)
+  sim-start : (others : ℕ → ℕ) → Sim (Related) (Lane.start p l) (Scalar.start p (x .input) others)
   unfolding Lane.start Scalar.start Lane.begin laneCount
   sim-start others =
-      bind-same (sim-startTests _ _ _) (λ _. agrees (related
-      (regs-fill _ 0 _ _ (at-start _ _ _ _ _ _ _ _ _ _ (whole 0) (whole stop) (whole stackPointer) (at-domain (p .image) (l .inputs) k input here) (λ j. at-unknown _ k _)))
-      (mem-write (p .image) (l .inputs) k input here 4 [] _ (mem-initial (p .image) (l .inputs) k input here) stop _ _ (whole stopWord))))
-    where
-      whole : (v : ℕ) → At (length (l .inputs)) k (constant (length (l .inputs)) v) v
-      whole v = at-constant (p .image) (l .inputs) k input here v
+      bind-same (sim-startTests _ _ _) (λ _. agrees (related (record {
+        regs = regs-fill _ 0 _ _ (at-start (at-constant x 0) (at-constant x stop) (at-constant x stackPointer) (at-domain x) (λ j. at-unknown _ (x .number) _));
+        mem = mem-write x 4 (mem-initial x) stop (at-constant x stopWord);
+      })))
 
-  pub sim-reached : (n : ℕ) (others : ℕ → ℕ) (u : LaneState) → Lane.reached p l n ≡ some u → Along u (Scalar.reached p n input others)
+  pub sim-reached : (n : ℕ) (others : ℕ → ℕ) (u : LaneState) → Lane.reached p l n ≡ some u → Along u (Scalar.reached p n (x .input) others)
   unfolding Lane.reached Scalar.reached
   sim-reached n others u q = along _ _ u (sim-start others) (λ s t r. sim-after n r u) q
 
-  pub sim-laneRun : (limit : ℕ) (others : ℕ → ℕ) → Sim _≡_ ((Lane.laneRun p l limit) .answer) (Scalar.scalarRun p limit input others)
+  pub sim-laneRun : (limit : ℕ) (others : ℕ → ℕ) → Sim _≡_ ((Lane.laneRun p l limit) .answer) (Scalar.scalarRun p limit (x .input) others)
   unfolding Lane.laneRun Scalar.scalarRun
   sim-laneRun limit others = bind-ended _ _ (sim-start others) (λ s t r. sim-run limit r)

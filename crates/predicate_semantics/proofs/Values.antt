@@ -13,12 +13,12 @@ use Rattle.lane_word.specs.declared.Uniform.the-variants.{Value, Unknown, Uneve
 use Rattle.lane_word.specs.Word.{unknown, constant, domain, unary, binary, every, uniformOf}
 use Rattle.lane_word.proofs.Tab.{length-zip}
 use Rattle.predicate_semantics.specs.Choice.{choose}
-use Rattle.predicate_semantics.specs.Program.{initial}
+use Rattle.predicate_semantics.specs.Program.{Program, initial}
 use Rattle.predicate_semantics.specs.State.{assign, fill, atStart}
 use Rattle.predicate_semantics.specs.Memory.{Written, byteAt, laneBytes}
 use Rattle.predicate_semantics.specs.Memory as Memory
 use Rattle.predicate_semantics.specs.Refusal.{refuse}
-use Rattle.predicate_semantics.specs.Lane.{agreedAs, agreed}
+use Rattle.predicate_semantics.specs.Lane.{Setup, agreedAs, agreed}
 use Rattle.predicate_semantics.specs.Scalar.{Bytes}
 use Rattle.predicate_semantics.specs.Scalar as Scalar
 use Rattle.predicate_semantics.proofs.Lists.{map-at, zip-at, replicate-at, both-left, both-right, every-at}
@@ -93,11 +93,11 @@ unfolding fill
 regs-fill zero i f g h = empty
 regs-fill (suc c) i f g h = more (h i) (regs-fill c (suc i) f g h)
 
-pub at-start : {n k : ℕ} (a b c d : LaneWord) (o : ℕ → LaneWord) (t u v w : ℕ) (q : ℕ → ℕ)
+pub at-start : {n k : ℕ} {a b c d : LaneWord} {o : ℕ → LaneWord} {t u v w : ℕ} {q : ℕ → ℕ}
     → At n k a t → At n k b u → At n k c v → At n k d w → ((j : ℕ) → At n k (o j) (q j))
     → (i : ℕ) → At n k (atStart a b c d o i) (atStart t u v w q i)
 unfolding atStart
-at-start a b c d o t u v w q ha hb hc hd ho i =
+at-start ha hb hc hd ho i =
     at-choose (eqb i 0) _ _ _ _ ha
     (at-choose (eqb i 1) _ _ _ _ hb
     (at-choose (eqb i 2) _ _ _ _ hc
@@ -131,40 +131,49 @@ byteAt-put other x a b (w ∷ ws) = go (eqb (w .address) a) refl (byteAt-put oth
     go false e ih =
         ap (λ (y : LaneWord). choose (eqb (w .address) x) (λ _. w .byte) (λ _. y)) ih ∙ apart (eqb (w .address) x) (eqb a x) e refl refl
 
-module _ (image inputs : List ℕ) (k : ℕ) where
-  -- memory, as lane k has it
-  abbrev pub Mem : List Written → Bytes → Type 0
-  Mem ws m = (a : ℕ) → At (length inputs) k (laneBytes image (length inputs) ws a) (m a)
+-- one lane of a run: its number and its input
+pub record OneLane (p : Program) (l : Setup) : Type 0 where
+  pub number : ℕ
+  pub input : ℕ
+  pub here : getElem? (l .inputs) number ≡ some input
 
-  module _ (input : ℕ) (here : getElem? inputs k ≡ some input) where
-    pub at-constant : (v : ℕ) → At (length inputs) k (constant (length inputs) v) v
-    unfolding constant
-    at-constant v = record { size = length-replicate (length inputs) v; value = λ t. replicate-at inputs v k here }
+module _ {p : Program} {l : Setup} (x : OneLane p l) where
+  -- a lane word, as the lane has it
+  abbrev pub In : LaneWord → ℕ → Type 0
+  In w v = At (length (l .inputs)) (x .number) w v
 
-    pub at-domain : At (length inputs) k (domain inputs) input
-    unfolding domain
-    at-domain = record { size = refl; value = λ t. here }
+  -- memory, as the lane has it
+  pub record Mem (ws : List Written) (m : Bytes) : Type 0 where
+    pub byte : (a : ℕ) → In (laneBytes (p .image) (length (l .inputs)) ws a) (m a)
 
-    pub at-read : (ws : List Written) (m : Bytes) → Mem ws m
-        → (n a : ℕ) → At (length inputs) k (Memory.read (length inputs) (laneBytes image (length inputs) ws) n a) (Scalar.read m n a)
-    unfolding Memory.read Scalar.read
-    at-read ws m h zero a = at-constant 0
-    at-read ws m h (suc n) a = at-binary join (h a) (at-read ws m h n (suc a))
+  pub at-constant : (v : ℕ) → In (constant (length (l .inputs)) v) v
+  unfolding constant
+  at-constant v = record { size = length-replicate (length (l .inputs)) v; value = λ t. replicate-at (l .inputs) v (x .number) (x .here) }
 
-    mem-put : (ws : List Written) (m : Bytes) → Mem ws m → (a : ℕ) (b : LaneWord) (c : ℕ) → At (length inputs) k b c
-        → Mem (Memory.put a b ws) (Scalar.put m a c)
-    unfolding Scalar.put laneBytes
-    mem-put ws m h a b c g x =
-        subst (λ (w : LaneWord). At (length inputs) k w (choose (eqb a x) (λ _. c) (λ _. m x))) (sym (byteAt-put _ x a b ws))
-        (at-choose (eqb a x) _ _ _ _ g (h x))
+  pub at-domain : In (domain (l .inputs)) (x .input)
+  unfolding domain
+  at-domain = record { size = refl; value = λ t. x .here }
 
-    pub mem-write : (n : ℕ) (ws : List Written) (m : Bytes) → Mem ws m → (a : ℕ) (w : LaneWord) (v : ℕ) → At (length inputs) k w v
-        → Mem (Memory.write ws n a w) (Scalar.write m n a v)
-    unfolding Memory.write Scalar.write
-    mem-write zero ws m h a w v g = h
-    mem-write (suc n) ws m h a w v g =
-        mem-write n _ _ (mem-put ws m h a _ _ (at-unary (λ v. v % 256) g)) (suc a) _ _ (at-unary (λ v. v / 256) g)
+  pub at-read : {ws : List Written} {m : Bytes} → Mem ws m
+      → (n a : ℕ) → In (Memory.read (length (l .inputs)) (laneBytes (p .image) (length (l .inputs)) ws) n a) (Scalar.read m n a)
+  unfolding Memory.read Scalar.read
+  at-read h zero a = at-constant 0
+  at-read h (suc n) a = at-binary join (h .byte a) (at-read h n (suc a))
 
-    pub mem-initial : Mem [] (initial image)
-    unfolding byteAt laneBytes
-    mem-initial a = at-constant (initial image a)
+  mem-put : {ws : List Written} {m : Bytes} → Mem ws m → (a : ℕ) {b : LaneWord} {c : ℕ} → In b c → Mem (Memory.put a b ws) (Scalar.put m a c)
+  unfolding Scalar.put laneBytes
+  mem-put {ws} {m} h a {b} {c} g = record {
+    byte = λ y.
+        subst (λ (w : LaneWord). In w (choose (eqb a y) (λ _. c) (λ _. m y))) (sym (byteAt-put _ y a b ws))
+        (at-choose (eqb a y) _ _ _ _ g (h .byte y));
+  }
+
+  pub mem-write : (n : ℕ) {ws : List Written} {m : Bytes} → Mem ws m → (a : ℕ) {w : LaneWord} {v : ℕ} → In w v
+      → Mem (Memory.write ws n a w) (Scalar.write m n a v)
+  unfolding Memory.write Scalar.write
+  mem-write zero h a g = h
+  mem-write (suc n) h a g = mem-write n (mem-put h a (at-unary (λ v. v % 256) g)) (suc a) (at-unary (λ v. v / 256) g)
+
+  pub mem-initial : Mem [] (initial (p .image))
+  unfolding byteAt laneBytes
+  mem-initial = record { byte = λ a. at-constant (initial (p .image) a) }
