@@ -40,7 +40,7 @@ pub record Ended : Type 0 where
   pub state : LaneState
   pub answer : Tested Result
 
--- Lane word: what a uniform test in a role answers: the value that all lanes share, 6 where it is not known, 7 where they differ
+-- Lane word: the answer of a uniform test in a role, which is the value that all lanes share, 6 where it is not known, 7 where they differ
 abbrev pub agreedAs : ℕ → Uniform → Tested ℕ
 agreedAs role (Value v) = passed v
 agreedAs role Unknown = refuse 6 role
@@ -108,7 +108,7 @@ module _ (inputs : List ℕ) where
       word ← accessAgreed 1 memory 4 pc
       decodeWord core steps word 4
 
-    -- the next instruction after so many completed steps: its low halfword says whether it is longer
+    -- Control step: the next instruction after so many completed steps; its low halfword says whether it is longer
     unfoldable pub fetch : Tested Fetched
     fetch = do
       half ← accessAgreed 1 memory 2 pc
@@ -142,7 +142,7 @@ module _ (p : Program) (l : Setup) where
   unfoldable pub reg : LaneState → ℕ → LaneWord
   reg s i = getD (s .registers) i (unknown laneCount)
 
-  -- an action's tests, and what it then changes; next is the following instruction's address
+  -- Control step: an action's tests in their order, and what it then changes; next is the following instruction's address
   unfoldable pub execute : LaneState → ℕ → Action → Tested (Effect LaneWord)
   execute s next Nothing = passed (goes next)
   execute s next (Literal rd v) = passed (sets rd (constant laneCount v) next)
@@ -186,7 +186,7 @@ module _ (p : Program) (l : Setup) where
     es ← events (l .inputs) (p .symbols .events) (memoryOf s) 0 [] (s .locations)
     passed (record { returnValue = returnValue; steps = s .steps; trace = s .trace; events = es })
 
-  -- at stop: the return value is x10
+  -- Control step: the answer at stop; the return value is x10
   unfoldable pub finish : LaneState → Tested Result
   finish s = do
     returnValue ← agreed 6 (reg s 10)
