@@ -76,7 +76,7 @@ pub enum Action {
     },
 }
 
-fn branch(test: Binary, v: BType, pc: u32) -> Action
+fn branch_of(test: Binary, v: BType, pc: u32) -> Action
     ensures { λ r. ⌜ r ≡ Action.Branch test (v .rs1) (v .rs2) (add pc (v .imm)) ⌝ }
 {
     Action::Branch {
@@ -87,7 +87,7 @@ fn branch(test: Binary, v: BType, pc: u32) -> Action
     }
 }
 
-fn load(v: IType, width: u32, extension: Extension) -> Action
+fn load_of(v: IType, width: u32, extension: Extension) -> Action
     ensures { λ r. ⌜ r ≡ Action.Load (v .rd) (v .rs1) (v .imm) width extension ⌝ }
 {
     Action::Load {
@@ -99,7 +99,7 @@ fn load(v: IType, width: u32, extension: Extension) -> Action
     }
 }
 
-fn store(v: SType, width: u32) -> Action
+fn store_of(v: SType, width: u32) -> Action
     ensures { λ r. ⌜ r ≡ Action.Store (v .rs1) (v .rs2) (v .imm) width ⌝ }
 {
     Action::Store {
@@ -110,7 +110,7 @@ fn store(v: SType, width: u32) -> Action
     }
 }
 
-fn immediate(function: Binary, v: IType) -> Action
+fn immediate_of(function: Binary, v: IType) -> Action
     ensures { λ r. ⌜ r ≡ Action.ComputeImmediate (v .rd) function (v .rs1) (v .imm) ⌝ }
 {
     Action::ComputeImmediate {
@@ -121,7 +121,7 @@ fn immediate(function: Binary, v: IType) -> Action
     }
 }
 
-fn shift(function: Binary, v: ShiftType) -> Action
+fn shift_of(function: Binary, v: ShiftType) -> Action
     ensures { λ r. ⌜ r ≡ Action.ComputeImmediate (v .rd) function (v .rs1) (v .shamt) ⌝ }
 {
     Action::ComputeImmediate {
@@ -132,7 +132,7 @@ fn shift(function: Binary, v: ShiftType) -> Action
     }
 }
 
-fn compute(function: Binary, v: RType) -> Action
+fn compute_of(function: Binary, v: RType) -> Action
     ensures { λ r. ⌜ r ≡ Action.Compute (v .rd) function (v .rs1) (v .rs2) ⌝ }
 {
     Action::Compute {
@@ -165,44 +165,44 @@ pub fn action_of(operation: Operation, pc: u32) -> Action
             rs1: v.rs1,
             offset: v.imm,
         },
-        Operation::Beq(v) => branch(Binary::Eq, v, pc),
-        Operation::Bne(v) => branch(Binary::Ne, v, pc),
-        Operation::Blt(v) => branch(Binary::Slt, v, pc),
-        Operation::Bge(v) => branch(Binary::Ge, v, pc),
-        Operation::Bltu(v) => branch(Binary::Sltu, v, pc),
-        Operation::Bgeu(v) => branch(Binary::Geu, v, pc),
-        Operation::Lb(v) => load(v, 1, Extension::Byte),
-        Operation::Lh(v) => load(v, 2, Extension::Halfword),
-        Operation::Lw(v) => load(v, 4, Extension::Unchanged),
-        Operation::Lbu(v) => load(v, 1, Extension::Unchanged),
-        Operation::Lhu(v) => load(v, 2, Extension::Unchanged),
-        Operation::Sb(v) => store(v, 1),
-        Operation::Sh(v) => store(v, 2),
-        Operation::Sw(v) => store(v, 4),
-        Operation::Addi(v) => immediate(Binary::Add, v),
-        Operation::Slti(v) => immediate(Binary::Slt, v),
-        Operation::Sltiu(v) => immediate(Binary::Sltu, v),
-        Operation::Xori(v) => immediate(Binary::Xor, v),
-        Operation::Ori(v) => immediate(Binary::Or, v),
-        Operation::Andi(v) => immediate(Binary::And, v),
-        Operation::Slli(v) => shift(Binary::Sll, v),
-        Operation::Srli(v) => shift(Binary::Srl, v),
-        Operation::Srai(v) => shift(Binary::Sra, v),
-        Operation::Add(v) => compute(Binary::Add, v),
-        Operation::Sub(v) => compute(Binary::Sub, v),
-        Operation::Sll(v) => compute(Binary::Sll, v),
-        Operation::Slt(v) => compute(Binary::Slt, v),
-        Operation::Sltu(v) => compute(Binary::Sltu, v),
-        Operation::Xor(v) => compute(Binary::Xor, v),
-        Operation::Srl(v) => compute(Binary::Srl, v),
-        Operation::Sra(v) => compute(Binary::Sra, v),
-        Operation::Or(v) => compute(Binary::Or, v),
-        Operation::And(v) => compute(Binary::And, v),
-        Operation::Mul(v) => compute(Binary::Mul, v),
-        Operation::Div(v) => compute(Binary::Div, v),
-        Operation::Divu(v) => compute(Binary::Divu, v),
-        Operation::Rem(v) => compute(Binary::Rem, v),
-        Operation::Remu(v) => compute(Binary::Remu, v),
+        Operation::Beq(v) => branch_of(Binary::Eq, v, pc),
+        Operation::Bne(v) => branch_of(Binary::Ne, v, pc),
+        Operation::Blt(v) => branch_of(Binary::Slt, v, pc),
+        Operation::Bge(v) => branch_of(Binary::Ge, v, pc),
+        Operation::Bltu(v) => branch_of(Binary::Sltu, v, pc),
+        Operation::Bgeu(v) => branch_of(Binary::Geu, v, pc),
+        Operation::Lb(v) => load_of(v, 1, Extension::Byte),
+        Operation::Lh(v) => load_of(v, 2, Extension::Halfword),
+        Operation::Lw(v) => load_of(v, 4, Extension::Unchanged),
+        Operation::Lbu(v) => load_of(v, 1, Extension::Unchanged),
+        Operation::Lhu(v) => load_of(v, 2, Extension::Unchanged),
+        Operation::Sb(v) => store_of(v, 1),
+        Operation::Sh(v) => store_of(v, 2),
+        Operation::Sw(v) => store_of(v, 4),
+        Operation::Addi(v) => immediate_of(Binary::Add, v),
+        Operation::Slti(v) => immediate_of(Binary::Slt, v),
+        Operation::Sltiu(v) => immediate_of(Binary::Sltu, v),
+        Operation::Xori(v) => immediate_of(Binary::Xor, v),
+        Operation::Ori(v) => immediate_of(Binary::Or, v),
+        Operation::Andi(v) => immediate_of(Binary::And, v),
+        Operation::Slli(v) => shift_of(Binary::Sll, v),
+        Operation::Srli(v) => shift_of(Binary::Srl, v),
+        Operation::Srai(v) => shift_of(Binary::Sra, v),
+        Operation::Add(v) => compute_of(Binary::Add, v),
+        Operation::Sub(v) => compute_of(Binary::Sub, v),
+        Operation::Sll(v) => compute_of(Binary::Sll, v),
+        Operation::Slt(v) => compute_of(Binary::Slt, v),
+        Operation::Sltu(v) => compute_of(Binary::Sltu, v),
+        Operation::Xor(v) => compute_of(Binary::Xor, v),
+        Operation::Srl(v) => compute_of(Binary::Srl, v),
+        Operation::Sra(v) => compute_of(Binary::Sra, v),
+        Operation::Or(v) => compute_of(Binary::Or, v),
+        Operation::And(v) => compute_of(Binary::And, v),
+        Operation::Mul(v) => compute_of(Binary::Mul, v),
+        Operation::Div(v) => compute_of(Binary::Div, v),
+        Operation::Divu(v) => compute_of(Binary::Divu, v),
+        Operation::Rem(v) => compute_of(Binary::Rem, v),
+        Operation::Remu(v) => compute_of(Binary::Remu, v),
         Operation::Fence => Action::Nothing,
         Operation::FenceI => Action::Nothing,
     }
