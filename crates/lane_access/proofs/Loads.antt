@@ -29,7 +29,8 @@ use Rattle.predicate_semantics.specs.Lane.{inside, agreedAs, agreed, access, ac
 use Rattle.predicate_semantics.specs.Standing.{standingCore}
 use Rattle.lane_memory.specs.Rows.{loadByte, toldByte}
 use Rattle.lane_memory.proofs.Laws.{load-below, told-byte}
-use Rattle.lane_access.specs.Seen.{offsetOf, seen, toldSeen, toldRead, Lies}
+use Rattle.lane_access.specs.Seen.{offsetOf, seen, toldSeen, toldRead}
+use Rattle.lane_access.specs.Whole.{Lies}
 use Rattle.lane_access.specs.declared.Accessed.{Accessed}
 use Rattle.lane_access.specs.declared.Loading.{Loading}
 use Rattle.lane_access.specs.declared.Loading.the-variants as loading
@@ -178,11 +179,11 @@ told-image image rows h (suc n) a k l f =
     rw (lt-ltb o (length image) (omega arith), ih, initial-at image a l, j, drop-cons image o 0 (omega arith))
 
 -- a number lies there where as many bytes are left from its offset on
-pub lies-left : (image : List ℕ) (a o v n : ℕ) → n ≤ 4 → o ≡ offsetOf a → o < length image → leb n (length image - o) ≡ true → v ≡ value (take n (drop o image)) → Lies v image a n
-lies-left image a o v n k e h b is = record { small = k; inside = omega (arith, e, h, leb-true n (length image - o) b); is = rw (← e) is }
+pub lies-left : {image : List ℕ} {a o v n : ℕ} → n ≤ 4 → o ≡ offsetOf a → o < length image → leb n (length image - o) ≡ true → v ≡ value (take n (drop o image)) → Lies v image a n
+lies-left {image} {a} {o} {v} {n} k e h b is = record { small = k; fits = omega (arith, e, h, leb-true n (length image - o) b); is = rw (← e) is }
 
 pub lies-told : (image rows : List ℕ) → AllBytes image → (v n a : ℕ) → imageBase ≤ a → Lies v image a n → Value v ≡ toldRead (toldSeen image rows) n a
-lies-told image rows h v n a l f = ap Value (f .is) ∙ sym (told-image image rows h n a (f .small) l (f .inside))
+lies-told image rows h v n a l f = ap Value (f .is) ∙ sym (told-image image rows h n a (f .small) l (f .fits))
 
 -- ---- a load after its range, and what its lanes agree on
 

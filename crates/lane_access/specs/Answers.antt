@@ -1,4 +1,4 @@
--- Document 01's number and role for each refusal of the code, and what the code's answers are in the semantics.
+-- Number and role of each refusal of the code (document 01, "Who causes a refusal"), and what the code's answers are in the semantics.
 use mathlib.Core.List.{List}
 use Prim.Native.Nat.{ℕ}
 use Rattle.riscv_decode.specs.declared.Fetched.{Fetched}
@@ -23,7 +23,7 @@ use Rattle.lane_access.specs.declared.Loading.the-variants as loading
 use Rattle.lane_access.specs.declared.Fetching.{Fetching}
 use Rattle.lane_access.specs.declared.Fetching.the-variants as fetching
 
--- "Roles of 6 and 7"
+-- what the word was read for, as a number
 abbrev pub roleOf : Role → ℕ
 roleOf role.Fetch = 1
 roleOf role.JumpTarget = 2
@@ -36,7 +36,7 @@ roleOf role.EventOperation = 8
 roleOf role.EventOffset = 9
 roleOf role.EventValue = 10
 
--- "Who causes a refusal": number and role
+-- only the two refusals of a uniform test have a role
 abbrev pub refusalOf : Rv32Error → Refusal
 refusalOf error.ImageSize = record { number = 1; role = 0 }
 refusalOf error.SymbolOutside = record { number = 2; role = 0 }

@@ -1,3 +1,6 @@
--- Loads and fetches: memory as the code sees it, and what the code's answers are in the semantics.
-pub mod Seen
+-- Loads and fetches.
+-- Numbers and roles of the code's refusals, what its answers are in the semantics, and memory as it sees it:
 pub mod Answers
+pub mod Seen
+-- What only private functions are equated with:
+pub mod Whole

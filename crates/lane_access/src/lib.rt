@@ -10,7 +10,8 @@ ghost use Rattle.predicate_semantics.specs.Memory.{read};
 ghost use Rattle.predicate_semantics.specs.Lane.{agreedAs, agreed, inside, access, accessAgreed, decodeWord, expandHalfword, fetchFour, fetch};
 ghost use Rattle.predicate_semantics.specs.Standing.{standingCore};
 ghost use Rattle.lane_memory.specs.Rows.{Joined};
-ghost use Rattle.lane_access.specs.Seen.{offsetOf, seen, toldSeen, toldRead, FromImage};
+ghost use Rattle.lane_access.specs.Seen.{offsetOf, seen, toldSeen, toldRead};
+ghost use Rattle.lane_access.specs.Whole.{FromImage};
 ghost use Rattle.lane_access.specs.Answers.{roleOf, verdictOf, agreedOf, accessedOf, accessedAs, loadingOf, toldLoad, fetchingOf};
 use lane_word::LaneWord;
 use lane_word::Told;
@@ -22,7 +23,8 @@ use riscv32imc::arithmetic::Binary;
 use riscv32imc::arithmetic::value;
 
 // The address past memory's end.
-pub const RV32_MEMORY_END: u32 = 0x8020_0000;
+pub const RV32_MEMORY_END: u32 = riscv32imc::RV32_IMAGE_BASE
+    + riscv32imc::MAX_RV32_MEMORY_BYTES as u32;
 
 // What a word that is not known or not uniform was read for.
 pub enum Role {

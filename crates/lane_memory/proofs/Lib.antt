@@ -2,7 +2,7 @@
 mod Search
 mod Bytes
 pub mod Memory
-mod Tables
+mod HashTables
 mod RowBytes
 mod Loops
 pub mod Laws

@@ -8,7 +8,8 @@ use native.Mathlib.Omega.{arith}
 use lib.ListN.{length, getD, take, drop, set, replicate, length-set, length-replicate, drop-of-length-le}
 use lib.Seq.{take-all, take-suc, take-suc-set, drop-cons, sets}
 use Rattle.little_endian.proofs.SetLaws.{sets-over}
-use Rattle.lane_memory.specs.Rows.{findRow, storeRow, storeRows, newAt, newBytes, unmarkRows}
+use Rattle.lane_memory.specs.Lent.{rowBytes}
+use Rattle.lane_memory.specs.Rows.{rowOf, storeRow, storeRows, newAt, newBytes, unmarkRows}
 use Rattle.lane_memory.specs.declared.Found.{Found}
 use Rattle.lane_memory.specs.declared.Found.the-variants.{At, Free, Full}
 
@@ -103,13 +104,13 @@ new-most (Free s) = omega arith
 new-most Full = omega arith
 
 module _ {l : List ℕ} {a width new k : ℕ} (s : Counting l a width new k) where
-  pub count-step : {x y : ℕ} → k < width → x ≡ (a + k) % 2 ^ 32 → y ≡ newAt (findRow l x) → Counting l a width (new + y) (k + 1)
+  pub count-step : {x y : ℕ} → k < width → x ≡ (a + k) % 2 ^ 32 → y ≡ newAt (rowOf l x) → Counting l a width (new + y) (k + 1)
   unfolding newBytes
   count-step {x} {y} h e f =
-      record { within = omega arith; most = omega (arith, f, new-most (findRow l x)); is = rw (add-one, f, e, s .is) }
+      record { within = omega arith; most = omega (arith, f, new-most (rowOf l x)); is = rw (add-one, f, e, s .is) }
 
-  pub count-fits : {y : ℕ} (x : ℕ) → k < width → y ≡ newAt (findRow l x) → new + y ≤ width
-  count-fits x h f = omega (arith, f, new-most (findRow l x), s .most)
+  pub count-fits : {y : ℕ} (x : ℕ) → k < width → y ≡ newAt (rowOf l x) → new + y ≤ width
+  count-fits x h f = omega (arith, f, new-most (rowOf l x), s .most)
 
   pub count-exit : width ≤ k → new ≡ newBytes l width a
   count-exit h = let z : k ≡ width = omega (arith, s .within) in rw z at (s .is)
@@ -126,9 +127,9 @@ unfolding unmarkRows
 unmark-start l n = record { long = refl; within = omega arith; is = refl }
 
 module _ {l : List ℕ} {n : ℕ} {out : List ℕ} {k : ℕ} (s : Unmarking l n out k) where
-  pub unmark-step : k < n → Unmarking l n (set out (k * 264) 0) (k + 1)
+  pub unmark-step : k < n → Unmarking l n (set out (k * rowBytes) 0) (k + 1)
   unfolding unmarkRows
-  unmark-step h = record { long = length-set out (k * 264) 0 ∙ s .long; within = omega arith; is = rw (add-one, s .is) }
+  unmark-step h = record { long = length-set out (k * rowBytes) 0 ∙ s .long; within = omega arith; is = rw (add-one, s .is) }
 
   pub unmark-exit : n ≤ k → out ≡ unmarkRows n l
   unmark-exit h = let z : k ≡ n = omega (arith, s .within) in rw z at (s .is)

@@ -13,7 +13,7 @@ use Rattle.lane_word.specs.declared.LaneWord.{LaneWord}
 use Rattle.lane_word.specs.Word.{unary}
 use Rattle.predicate_semantics.specs.Choice.{choose}
 use Rattle.predicate_semantics.specs.Memory.{Written, byteAt, put, write}
-use Rattle.lane_memory.specs.Rows.{byteOf}
+use Rattle.lane_memory.specs.Rows.{wordByte}
 use Rattle.lane_memory.specs.Holds.{lookup, one, used}
 use Rattle.lane_memory.proofs.Search.{clash, same?}
 use Rattle.lane_memory.proofs.Bytes.{of-above, of-lowest}
@@ -82,7 +82,7 @@ module _ (a : ℕ) (b : LaneWord) where
 -- ---- a word is stored byte by byte
 
 -- the last byte of a store is stored last
-pub write-suc : (n a : ℕ) (w : LaneWord) (m : List Written) → write m (suc n) a w ≡ put (a + n) (byteOf n w) (write m n a w)
+pub write-suc : (n a : ℕ) (w : LaneWord) (m : List Written) → write m (suc n) a w ≡ put (a + n) (wordByte n w) (write m n a w)
 unfolding write
 write-suc zero a w m = let e : a + 0 ≡ a = omega arith in rw (e, of-lowest w)
 write-suc (suc n) a w m =
@@ -94,7 +94,7 @@ pub lookup-write : (n a : ℕ) (w : LaneWord) (m : List Written) (x : ℕ) → a
 unfolding write
 lookup-write zero a w m x h = refl
 lookup-write (suc n) a w m x h =
-    rw (write-suc n a w m, lookup-put (a + n) (byteOf n w) x (write m n a w), ne-eqb (a + n) x (λ z. omega arith))
+    rw (write-suc n a w m, lookup-put (a + n) (wordByte n w) x (write m n a w), ne-eqb (a + n) x (λ z. omega arith))
     (lookup-write n a w m x (omega arith))
 
 -- ---- how many rows are used

@@ -2,14 +2,14 @@
 use mathlib.Core.Bool.{Bool, true, false, cond}
 use mathlib.Core.Logic.{_⊎_, inl, inr, ⊎-elim}
 use mathlib.Core.Option.{Option}
-use mathlib.Core.Path.{_≡_, refl, sym, _∙_}
-use Prim.Native.Nat.{ℕ, zero, suc, _+_, _-_, _/_, _%_, _<_, _≤_}
+use mathlib.Core.Path.{_≡_, refl, sym, subst, _∙_}
+use Prim.Native.Nat.{ℕ, zero, suc, _+_, _-_, _%_, _<_, _≤_}
 use native.Mathlib.Nat.{mod-lt}
 use native.Mathlib.Omega.{arith}
 use borrow.Author.Tests.{lt-ltb, le-ltb, ltb-true, ltb-false, eqb-true, eqb-false}
 use lib.Dec.{eqb, ltb}
 use Rattle.predicate_semantics.specs.Memory.{Written}
-use Rattle.lane_memory.specs.Rows.{probe, next, stride, hop, onward, ending, scan, tries, findIn}
+use Rattle.lane_memory.specs.Search.{probe, next, stride, hop, onward, ending, scan, hops, tries, findIn}
 use Rattle.lane_memory.specs.declared.Probe.{Probe}
 use Rattle.lane_memory.specs.declared.Probe.the-variants.{Empty, Match, Other}
 use Rattle.lane_memory.specs.declared.Found.{Found}
@@ -64,32 +64,45 @@ onward-below n j s h = go (ltb j n)
     go true = next-below n s h
     go false = hop-below n s h
 
+-- t is among the j rows of n from s on: up to the last, then from the first
+record Ahead (n j s t : ℕ) : Type 0 where
+  here : s < n
+  there : t < n
+  among : ((s ≤ t) × (t < s + j)) ⊎ (t + n < s + j)
+
+ahead-next : {n j s t : ℕ} → Ahead n (suc j) s t → (s ≡ t → ⊥) → Ahead n j (next n s) t
+ahead-next {n} {j} {s} {t} w d =
+    record {
+      here = next-below n s (w .here);
+      there = w .there;
+      among =
+          ⊎-elim
+          (λ l. rw (lt-ltb (s + 1) n l) (⊎-elim (λ p. inl (omega arith, omega arith)) (λ p. inr (omega arith)) (w .among)))
+          (λ l. rw (le-ltb (s + 1) n l) (⊎-elim (λ p. absurd (d (omega (arith, w .there)))) (λ p. inl (omega arith, omega arith)) (w .among)))
+          (less? (s + 1) n);
+    }
+
 module _ (P : ℕ → Probe) (n : ℕ) where
   scan-step : (j s : ℕ) → 0 < j → scan P n j s ≡ ending (P s) s (scan P n (j - 1) (onward n (j - 1) s))
   unfolding scan
   scan-step zero s h = absurd (omega arith)
   scan-step (suc j) s h = let e : suc j - 1 ≡ j = omega arith in rw e
 
-  -- where a search ends
-  free-ends : (s t : ℕ) (p : Probe) (r : Found) → s < n → P s ≡ p → (r ≡ Free t → (P t ≡ Empty) × (t < n)) → ending p s r ≡ Free t → (P t ≡ Empty) × (t < n)
-  free-ends s t Empty r h q k e = let z : s ≡ t = cc in (rw z at q, rw z at h)
-  free-ends s t Match r h q k e = absurd (clash (cc))
-  free-ends s t Other r h q k e = k e
+  -- what a search says of the row that it ends at
+  abbrev pub Ends : Found → Type 0
+  Ends (At t) = (P t ≡ Match) × (t < n)
+  Ends (Free t) = (P t ≡ Empty) × (t < n)
+  Ends Full = Unit {0}
 
-  pub scan-free : (j s t : ℕ) → s < n → scan P n j s ≡ Free t → (P t ≡ Empty) × (t < n)
+  ends-on : (s : ℕ) (p : Probe) (r : Found) → P s ≡ p → s < n → Ends r → Ends (ending p s r)
+  ends-on s Empty r q h k = (q, h)
+  ends-on s Match r q h k = (q, h)
+  ends-on s Other r q h k = k
+
+  pub scan-ends : (j s : ℕ) → s < n → Ends (scan P n j s)
   unfolding scan
-  scan-free zero s t h e = absurd (clash (cc))
-  scan-free (suc j) s t h e = free-ends s t (P s) _ h refl (scan-free j (onward n j s) t (onward-below n j s h)) e
-
-  at-ends : (s t : ℕ) (p : Probe) (r : Found) → s < n → P s ≡ p → (r ≡ At t → (P t ≡ Match) × (t < n)) → ending p s r ≡ At t → (P t ≡ Match) × (t < n)
-  at-ends s t Empty r h q k e = absurd (clash (cc))
-  at-ends s t Match r h q k e = let z : s ≡ t = cc in (rw z at q, rw z at h)
-  at-ends s t Other r h q k e = k e
-
-  pub scan-at : (j s t : ℕ) → s < n → scan P n j s ≡ At t → (P t ≡ Match) × (t < n)
-  unfolding scan
-  scan-at zero s t h e = absurd (clash (cc))
-  scan-at (suc j) s t h e = at-ends s t (P s) _ h refl (scan-at j (onward n j s) t (onward-below n j s h)) e
+  scan-ends zero s h = tt
+  scan-ends (suc j) s h = ends-on s (P s) _ refl h (scan-ends j (onward n j s) (onward-below n j s h))
 
   -- a search that ends with nothing has passed every row
   full-ends : {A : Type 0} (s : ℕ) (p : Probe) (r : Found) → P s ≡ p → (P s ≡ Other → r ≡ Full → A) → ending p s r ≡ Full → A
@@ -97,41 +110,34 @@ module _ (P : ℕ → Probe) (n : ℕ) where
   full-ends s Match r q k e = absurd (clash (cc))
   full-ends s Other r q k e = k q e
 
-  -- t is among the j rows from s on: up to the last, then from the first
-  abbrev Among : ℕ → ℕ → ℕ → Type 0
-  Among j s t = ((s ≤ t) × (t < s + j)) ⊎ (t + n < s + j)
-
-  among-next : (j s t : ℕ) → s < n → t < n → (s ≡ t → ⊥) → Among (suc j) s t → Among j (next n s) t
-  among-next j s t h b d w =
-      ⊎-elim
-      (λ l. rw (lt-ltb (s + 1) n l) (⊎-elim (λ p. inl (omega arith, omega arith)) (λ p. inr (omega arith)) w))
-      (λ l. rw (le-ltb (s + 1) n l) (⊎-elim (λ p. absurd (d (omega arith))) (λ p. inl (omega arith, omega arith)) w))
-      (less? (s + 1) n)
-
   -- the last rows are looked at one after another
-  scan-among : (j s t : ℕ) → j ≤ n → s < n → t < n → scan P n j s ≡ Full → Among j s t → P t ≡ Other
+  scan-ahead : (j s t : ℕ) → j ≤ n → Ahead n j s t → scan P n j s ≡ Full → P t ≡ Other
   unfolding scan
-  scan-among zero s t l h b e w = absurd (⊎-elim (λ p. omega arith) (λ p. omega arith) w)
-  scan-among (suc j) s t l h b e w =
+  scan-ahead zero s t l w e = absurd (⊎-elim (λ p. omega arith) (λ p. omega (arith, w .here)) (w .among))
+  scan-ahead (suc j) s t l w e =
       full-ends s (P s) _ refl
       (λ q f. ⊎-elim (λ z. rw z at q)
-      (λ d. scan-among j (next n s) t (omega arith) (next-below n s h) b (rw (lt-ltb j n (omega arith)) at f) (among-next j s t h b d w)) (same? s t)) e
+      (λ d. scan-ahead j (next n s) t (omega arith) (ahead-next w d) (rw (lt-ltb j n (omega arith)) at f)) (same? s t)) e
+
+  scan-all : (s t : ℕ) → s < n → t < n → scan P n n s ≡ Full → P t ≡ Other
+  scan-all s t h b e =
+      scan-ahead n s t (omega arith)
+      (record { here = h; there = b; among = ⊎-elim (λ l. inr (omega arith)) (λ l. inl (l, omega arith)) (less? t s) }) e
 
   -- hops come first
-  scan-rest : (k j s t : ℕ) → j ≡ n + k → s < n → t < n → scan P n j s ≡ Full → P t ≡ Other
+  scan-hops : (k s t : ℕ) → s < n → t < n → scan P n (n + k) s ≡ Full → P t ≡ Other
   unfolding scan
-  scan-rest zero j s t z h b e =
-      scan-among j s t (omega arith) h b e (⊎-elim (λ l. inr (omega arith)) (λ l. inl (l, omega arith)) (less? t s))
-  scan-rest (suc k) zero s t z h b e = absurd (omega arith)
-  scan-rest (suc k) (suc j) s t z h b e =
-      full-ends s (P s) _ refl (λ q f. scan-rest k j (onward n j s) t (omega arith) (onward-below n j s h) b f) e
+  scan-hops zero s t h b e = let z : n + 0 ≡ n = omega arith in scan-all s t h b (rw z at e)
+  scan-hops (suc k) s t h b e =
+      let z : n + suc k ≡ suc (n + k) = omega arith in
+      full-ends s (P s) _ refl (λ q f. scan-hops k (onward n (n + k) s) t (onward-below n (n + k) s h) b f) (rw z at e)
 
   pub scan-full : (s t : ℕ) → s < n → t < n → scan P n (tries n) s ≡ Full → P t ≡ Other
-  scan-full s t h b e = go (ltb n 32) e
+  scan-full s t h b e = go (ltb n hops) e
     where
-      go : (c : Bool) → scan P n (cond c n (n + 32)) s ≡ Full → P t ≡ Other
-      go true e = scan-rest 0 n s t (omega arith) h b e
-      go false e = scan-rest 32 (n + 32) s t refl h b e
+      go : (c : Bool) → scan P n (cond c n (n + hops)) s ≡ Full → P t ≡ Other
+      go true e = scan-all s t h b e
+      go false e = scan-hops hops s t h b e
 
 -- P′ is P
 pub scan-same : (P P′ : ℕ → Probe) (n : ℕ) → ((s : ℕ) → P′ s ≡ P s) → (j s : ℕ) → scan P′ n j s ≡ scan P n j s
@@ -140,29 +146,31 @@ scan-same P P′ n e zero s = refl
 scan-same P P′ n e (suc j) s = rw (e s, scan-same P P′ n e j _)
 
 -- P′ is P, save at rows that were empty
-module _ (P P′ : ℕ → Probe) (n : ℕ) (kept : (s : ℕ) → (P s ≡ Empty → ⊥) → P′ s ≡ P s) where
-  keep-ends : (s t : ℕ) (p : Probe) (r r′ : Found) → P s ≡ p → (r ≡ At t → r′ ≡ At t) → ending p s r ≡ At t → ending (P′ s) s r′ ≡ At t
-  keep-ends s t Empty r r′ q k e = absurd (clash (cc))
-  keep-ends s t Match r r′ q k e = rw (kept s (λ p. absurd (clash (cc))), q) e
-  keep-ends s t Other r r′ q k e = rw (kept s (λ p. absurd (clash (cc))), q) (k e)
+pub record Grown (P P′ : ℕ → Probe) : Type 0 where
+  pub kept : (s : ℕ) → (P s ≡ Empty → ⊥) → P′ s ≡ P s
 
-  -- what was found stays found
-  pub scan-keep : (j s t : ℕ) → scan P n j s ≡ At t → scan P′ n j s ≡ At t
+module _ {P P′ : ℕ → Probe} (g : Grown P P′) where
+  -- what was found stays found; a free row, once taken, is found
+  abbrev Stays : Found → Found → Type 0
+  Stays (At t) r = r ≡ At t
+  Stays (Free t) r = P′ t ≡ Match → r ≡ At t
+  Stays Full r = Unit {0}
+
+  stays-on : (s : ℕ) (p : Probe) (r r′ : Found) → P s ≡ p → Stays r r′ → Stays (ending p s r) (ending (P′ s) s r′)
+  stays-on s Empty r r′ q k = λ m. rw m
+  stays-on s Match r r′ q k = rw (g .kept s (λ p. absurd (clash (cc))), q)
+  stays-on s Other r r′ q k = rw (g .kept s (λ p. absurd (clash (cc))), q) k
+
+  scan-stays : (n j s : ℕ) → Stays (scan P n j s) (scan P′ n j s)
   unfolding scan
-  scan-keep zero s t e = e
-  scan-keep (suc j) s t e = keep-ends s t (P s) _ _ refl (scan-keep j (onward n j s) t) e
+  scan-stays n zero s = tt
+  scan-stays n (suc j) s = stays-on s (P s) _ _ refl (scan-stays n j (onward n j s))
 
-  -- a free row, once taken, is found
-  module _ (t : ℕ) (new : P′ t ≡ Match) where
-    new-ends : (s : ℕ) (p : Probe) (r r′ : Found) → P s ≡ p → (r ≡ Free t → r′ ≡ At t) → ending p s r ≡ Free t → ending (P′ s) s r′ ≡ At t
-    new-ends s Empty r r′ q k e = let z : s ≡ t = cc in rw (z, new)
-    new-ends s Match r r′ q k e = absurd (clash (cc))
-    new-ends s Other r r′ q k e = rw (kept s (λ p. absurd (clash (cc))), q) (k e)
+  pub scan-keep : (n j s t : ℕ) → scan P n j s ≡ At t → scan P′ n j s ≡ At t
+  scan-keep n j s t e = subst (λ (r : Found). Stays r (scan P′ n j s)) e (scan-stays n j s)
 
-    pub scan-new : (j s : ℕ) → scan P n j s ≡ Free t → scan P′ n j s ≡ At t
-    unfolding scan
-    scan-new zero s e = absurd (clash (cc))
-    scan-new (suc j) s e = new-ends s (P s) _ _ refl (scan-new j (onward n j s)) e
+  pub scan-new : (n j s t : ℕ) → P′ t ≡ Match → scan P n j s ≡ Free t → scan P′ n j s ≡ At t
+  scan-new n j s t m e = subst (λ (r : Found). Stays r (scan P′ n j s)) e (scan-stays n j s) m
 
 -- the loop of `find`: what is left of the search has the whole's answer
 pub record Seeking (T : ℕ → Option Written) (n a s left : ℕ) : Type 0 where

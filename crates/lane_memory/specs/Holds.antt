@@ -7,7 +7,9 @@ use Prim.Native.Nat.{ℕ, zero, suc, _+_, _<_}
 use lib.Dec.{eqb}
 use lib.ListN.{length}
 use Rattle.predicate_semantics.specs.Memory.{Written}
-use Rattle.lane_memory.specs.Rows.{rowCount, held, findIn}
+use Rattle.lane_memory.specs.Lent.{rowCount}
+use Rattle.lane_memory.specs.Search.{findIn}
+use Rattle.lane_memory.specs.Rows.{held}
 use Rattle.lane_memory.specs.declared.Found.{Found}
 use Rattle.lane_memory.specs.declared.Found.the-variants.{At, Free, Full}
 
@@ -31,13 +33,13 @@ unfoldable pub used : (ℕ → Option Written) → ℕ → ℕ
 used T zero = 0
 used T (suc n) = one (T n) + used T n
 
--- n rows are a table of the memory m: a search finds each used row by its address, sees what the list has, and there are as many
-pub record Table (T : ℕ → Option Written) (n : ℕ) (m : List Written) : Type 0 where
-  pub found : (s : ℕ) (w : Written) → s < n → T s ≡ some w → findIn T n (w .address) ≡ At s
+-- n rows are a hash table of the memory m: a search finds each used row by its address, sees what the list has, and there are as many
+pub record HashTable (T : ℕ → Option Written) (n : ℕ) (m : List Written) : Type 0 where
+  pub finds : (s : ℕ) (w : Written) → s < n → T s ≡ some w → findIn T n (w .address) ≡ At s
   pub same : (a : ℕ) → content T (findIn T n a) ≡ lookup a m
   pub count : used T n ≡ length m
 
 -- the bytes of lent memory, n whole rows, hold the memory m
 pub record Holds (memory : List ℕ) (n : ℕ) (m : List Written) : Type 0 where
   pub rows : rowCount memory ≡ n
-  pub table : Table (held memory) n m
+  pub table : HashTable (held memory) n m

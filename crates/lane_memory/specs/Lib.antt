@@ -1,3 +1,8 @@
--- Written bytes in lent rows: what the functions are equated with, and what rows and memory have to do with each other.
+-- Written bytes in lent rows.
+-- What a run's promise cites:
+pub mod Lent
+-- What the functions here are equated with:
+pub mod Search
 pub mod Rows
+-- What the laws say of rows and memory:
 pub mod Holds

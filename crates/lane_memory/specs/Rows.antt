@@ -1,35 +1,23 @@
--- The rows of lent memory (document 01, "Written byte"): what a row holds, how an address's row is found, and what each function answers and leaves.
+-- The rows of lent memory (document 01, "Written byte"): what a row holds, and what each function answers and leaves.
 use mathlib.Core.Bool.{Bool, true, false, cond, not}
 use mathlib.Core.List.{List, [], _∷_, _++_}
 use mathlib.Core.Option.{Option, none, some}
 use mathlib.Core.Path.{_≡_}
-use Prim.Native.Nat.{ℕ, zero, suc, _+_, _-_, _*_, _/_, _%_, _^_}
-use lib.Dec.{eqb, ltb}
-use lib.ListN.{length, getD, take, drop, set, replicate}
+use Prim.Native.Nat.{ℕ, zero, suc, _+_, _*_, _%_, _^_}
+use lib.Dec.{eqb}
+use lib.ListN.{length, getD, take, drop, set}
 use lib.Seq.{sets}
 use Rattle.little_endian.specs.Number.{value, bytes}
-use Rattle.riscv32imc.specs.Bits as Bits
+use Rattle.riscv32imc.specs.Bits.{byteOf, join}
 use Rattle.lane_word.specs.declared.LaneWord.{LaneWord}
 use Rattle.lane_word.specs.declared.Told.{Told}
 use Rattle.lane_word.specs.declared.Told.the-variants.{Value, Lanes}
 use Rattle.lane_word.specs.Word.{lanes, constant, unary, zip}
 use Rattle.predicate_semantics.specs.Memory.{Written}
-use Rattle.lane_memory.specs.declared.Probe.{Probe}
-use Rattle.lane_memory.specs.declared.Probe.the-variants.{Empty, Match, Other}
+use Rattle.lane_memory.specs.Search.{findIn}
 use Rattle.lane_memory.specs.declared.Found.{Found}
 use Rattle.lane_memory.specs.declared.Found.the-variants.{At, Free, Full}
-
--- what a row starts with: a used mark, a known mark, a uniform mark, a zero, 4 bytes of address
-abbrev pub headBytes : ℕ
-headBytes = 8
-
--- the size of a row, chosen once: its head, and 256 lane values of a byte each, of which the first serve, one for each lane
-abbrev pub rowBytes : ℕ
-rowBytes = headBytes + 256
-
--- "Lent memory counts in whole rows"
-abbrev pub rowCount : List ℕ → ℕ
-rowCount memory = length memory / rowBytes
+pub use Rattle.lane_memory.specs.Lent.{headBytes, rowBytes, rowCount, cleared}
 
 -- the bytes of row s
 abbrev pub rowAt : List ℕ → ℕ → List ℕ
@@ -51,58 +39,13 @@ rowHolds row =
 unfoldable pub held : List ℕ → ℕ → Option Written
 held memory s = rowHolds (rowAt memory s)
 
--- what a row is to the search for an address
-abbrev pub probe : Option Written → ℕ → Probe
-probe none a = Empty
-probe (some w) a = cond (eqb (w .address) a) Match Other
+-- the search through lent rows
+abbrev pub rowOf : List ℕ → ℕ → Found
+rowOf memory a = findIn (held memory) (rowCount memory) a
 
--- the row after row s of n: after the last comes the first
-abbrev pub next : ℕ → ℕ → ℕ
-next n s = cond (ltb (s + 1) n) (s + 1) 0
-
--- a row ends the search, or leaves it to the rows after
-abbrev pub ending : Probe → ℕ → Found → Found
-ending Empty s rest = Free s
-ending Match s rest = At s
-ending Other s rest = rest
-
--- a hop: about 0.618 of n rows on, round the end, so that hops in a row come to rows far apart
-abbrev pub stride : ℕ → ℕ
-stride n = n / 2 + n / 8 - n / 128
-
-abbrev pub hop : ℕ → ℕ → ℕ
-hop n s = cond (ltb (s + stride n) n) (s + stride n) (s + stride n - n)
-
--- the row after row s, where j more are to be looked at: the last n of them are all n rows, one after another
-abbrev pub onward : ℕ → ℕ → ℕ → ℕ
-onward n j s = cond (ltb j n) (next n s) (hop n s)
-
--- the search through j of n rows from row s on
-unfoldable pub scan : (ℕ → Probe) → ℕ → ℕ → ℕ → Found
-scan P n zero s = Full
-scan P n (suc j) s = ending (P s) s (scan P n j (onward n j s))
-
--- how many hops a search makes
-abbrev pub hops : ℕ
-hops = 32
-
--- they come before all n rows, where there are as many
-abbrev pub tries : ℕ → ℕ
-tries n = cond (ltb n hops) n (n + hops)
-
--- open addressing: hops from the address's remainder on, then all n rows
-abbrev pub findIn : (ℕ → Option Written) → ℕ → ℕ → Found
-findIn T n a = scan (λ s. probe (T s) a) n (tries n) (a % n)
-
-abbrev pub findRow : List ℕ → ℕ → Found
-findRow memory a = findIn (held memory) (rowCount memory) a
-
--- byte k of a word, each value's: the lowest is byte 0
-abbrev pub byteValue : ℕ → ℕ → ℕ
-byteValue k v = Bits.byteOf v k
-
-abbrev pub byteOf : ℕ → LaneWord → LaneWord
-byteOf k w = unary (byteValue k) w
+-- byte k of a word's values, counted from the lowest
+abbrev pub wordByte : ℕ → LaneWord → LaneWord
+wordByte k w = unary (λ v. byteOf v k) w
 
 -- the bytes of a row before its lane values
 abbrev pub headOf : Bool → Bool → ℕ → List ℕ
@@ -126,7 +69,7 @@ storeAt (Free s) memory row = writeRow memory s row
 storeAt Full memory row = memory
 
 unfoldable pub storeRow : List ℕ → ℕ → List ℕ → List ℕ
-storeRow memory a row = storeAt (findRow memory a) memory row
+storeRow memory a row = storeAt (rowOf memory a) memory row
 
 abbrev pub storeByte : List ℕ → ℕ → LaneWord → List ℕ
 storeByte memory a b = storeRow memory a (laneRow a b)
@@ -141,10 +84,10 @@ storeRows memory (suc k) a row = storeRow (storeRows memory k a row) ((a + k) % 
 
 -- the low n bytes of a word, and of a number that is the same in all lanes
 unfoldable pub storeBytes : List ℕ → ℕ → ℕ → LaneWord → List ℕ
-storeBytes memory n a w = storeRows memory n a (λ k x. laneRow x (byteOf k w))
+storeBytes memory n a w = storeRows memory n a (λ k x. laneRow x (wordByte k w))
 
 unfoldable pub storeValues : List ℕ → ℕ → ℕ → ℕ → List ℕ
-storeValues memory n a v = storeRows memory n a (λ k x. valueRow x (byteValue k v))
+storeValues memory n a v = storeRows memory n a (λ k x. valueRow x (byteOf v k))
 
 -- the written byte, or the one given
 abbrev pub loadAt : Found → List ℕ → ℕ → LaneWord
@@ -153,11 +96,11 @@ loadAt (Free s) memory other = constant lanes other
 loadAt Full memory other = constant lanes other
 
 unfoldable pub loadByte : List ℕ → ℕ → ℕ → LaneWord
-loadByte memory a other = loadAt (findRow memory a) memory other
+loadByte memory a other = loadAt (rowOf memory a) memory other
 
 -- a byte below the values above it, in each lane; where there is not a value for each lane, they stay
 unfoldable pub joined : LaneWord → List ℕ → List ℕ
-joined b high = cond (eqb (length high) lanes) (zip Bits.join (b .values) high) high
+joined b high = cond (eqb (length high) lanes) (zip join (b .values) high) high
 
 -- what a byte's join answers and leaves: whether the byte is known, and the values
 abbrev pub Joined : LaneWord → List ℕ → Bool → List ℕ → Type 0
@@ -173,7 +116,7 @@ toldAt (Free s) memory other = Value other
 toldAt Full memory other = Value other
 
 unfoldable pub toldByte : List ℕ → ℕ → ℕ → Told
-toldByte memory a other = toldAt (findRow memory a) memory other
+toldByte memory a other = toldAt (rowOf memory a) memory other
 
 -- how many of a store's n bytes have no row yet
 abbrev pub newAt : Found → ℕ
@@ -183,11 +126,7 @@ newAt Full = 1
 
 unfoldable pub newBytes : List ℕ → ℕ → ℕ → ℕ
 newBytes memory zero a = 0
-newBytes memory (suc k) a = newBytes memory k a + newAt (findRow memory ((a + k) % 2 ^ 32))
-
--- zeros in every whole row; "a remainder is untouched"
-abbrev pub cleared : List ℕ → List ℕ
-cleared memory = replicate (rowCount memory * rowBytes) 0 ++ drop (rowCount memory * rowBytes) memory
+newBytes memory (suc k) a = newBytes memory k a + newAt (rowOf memory ((a + k) % 2 ^ 32))
 
 -- the first n rows are free, all whole rows are: only their used marks change
 unfoldable pub unmarkRows : ℕ → List ℕ → List ℕ

@@ -5,17 +5,20 @@ ghost use mathlib.Core.List.{map};
 ghost use Prim.Native.Nat.{_+_, _*_, _<_, _≤_, _^_};
 ghost use lib.ListN.{length};
 ghost use lib.Seq.{sets};
+ghost use Rattle.riscv32imc.specs.Bits.{byteOf};
 ghost use Rattle.lane_word.specs.Word.{lanes, constant};
-ghost use Rattle.predicate_semantics.specs.Memory.{Written};
-ghost use Rattle.lane_memory.specs.Rows.{headBytes, rowBytes, rowCount, held, probe, next, hop, onward, hops, tries, findRow, byteValue, byteOf, headOf, laneRow, valueRow, writeRow, storeByte, storeValue, storeBytes, storeValues, rowAt, laneByte, rowByte, loadByte, joined, Joined, toldRow, toldByte, newAt, newBytes, unmarked, cleared};
+ghost use Rattle.lane_memory.specs.Lent.{headBytes, rowBytes, rowCount, cleared};
+ghost use Rattle.lane_memory.specs.Search.{probe, next, hop, onward, hops, tries};
+ghost use Rattle.lane_memory.specs.Rows.{held, rowOf, wordByte, headOf, laneRow, valueRow, writeRow, storeByte, storeValue, storeBytes, storeValues, rowAt, laneByte, rowByte, loadByte, joined, Joined, toldRow, toldByte, newAt, newBytes, unmarked};
 use lane_word::LaneWord;
 use lane_word::Told;
 use riscv32imc::arithmetic::Binary;
+use riscv32imc::arithmetic::byte_of;
 use riscv32imc::arithmetic::value;
 
 // A row's head: a used mark, a known mark, a uniform mark, a zero, the address in 4 bytes.
 const HEAD_BYTES: usize = 8;
-// A row: its head and 256 lane values of a byte each.
+// A row: its head and room for 256 lane values of a byte each.
 // Under a uniform mark the byte is known and lane value 0 serves for every lane.
 pub const ROW_BYTES: usize = HEAD_BYTES + 256;
 // How many hops a search makes before it looks at every row.
@@ -42,7 +45,7 @@ pub fn row_count(rows: &[u8]) -> usize
     rows.len() / ROW_BYTES
 }
 
-fn look(rows: &[u8], row: usize, address: u32) -> Probe
+fn probe_row(rows: &[u8], row: usize, address: u32) -> Probe
     requires { ⌜ row * rowBytes + rowBytes ≤ length (now rows) ⌝ }
     ensures { λ r. ⌜ r ≡ probe (held (now (rows .entry)) row) address ⌝ }
 {
@@ -57,7 +60,7 @@ fn look(rows: &[u8], row: usize, address: u32) -> Probe
     }
 }
 
-fn after(row: usize, count: usize) -> usize
+fn next_row(row: usize, count: usize) -> usize
     requires { ⌜ row < count ⌝ }
     ensures { λ r. ⌜ r ≡ next count row ⌝ }
 {
@@ -82,7 +85,7 @@ fn onward(row: usize, count: usize, left: usize) -> usize
     ensures { λ r. ⌜ r ≡ onward count left row ⌝ }
 {
     if left < count {
-        return after(row, count);
+        return next_row(row, count);
     }
     hop(row, count)
 }
@@ -97,7 +100,7 @@ fn tries(count: usize) -> usize
 
 // The row of an address, or one that it can take.
 pub fn find(rows: &[u8], address: u32) -> Found
-    ensures { λ r. ⌜ r ≡ findRow (now (rows .entry)) address ⌝ }
+    ensures { λ r. ⌜ r ≡ rowOf (now (rows .entry)) address ⌝ }
 {
     let count = rows.len() / ROW_BYTES;
     if count == 0 {
@@ -106,7 +109,7 @@ pub fn find(rows: &[u8], address: u32) -> Found
     let mut row = (address as usize) % count;
     let mut left = tries(count);
     while 0 < left {
-        let seen = look(rows, row, address);
+        let seen = probe_row(rows, row, address);
         match seen {
             Probe::Empty => return Found::Free(row),
             Probe::Match => return Found::At(row),
@@ -118,14 +121,11 @@ pub fn find(rows: &[u8], address: u32) -> Found
     Found::Full
 }
 
-// Byte `place` of a number, 0 beyond the fourth.
-fn byte_of(x: u32, place: u32) -> u8
-    ensures { λ r. ⌜ r ≡ byteValue place x ⌝ }
+// Byte `place` of a number, to be stored.
+fn stored_byte(number: u32, place: u32) -> u8
+    ensures { λ r. ⌜ r ≡ byteOf number place ⌝ }
 {
-    if 4 <= place {
-        return 0;
-    }
-    ((x >> (8 * place)) % 256) as u8
+    byte_of(number, place) as u8
 }
 
 fn mark(known: bool) -> u8
@@ -147,18 +147,18 @@ fn write_head(rows: &mut [u8], at: usize, known: bool, uniform: bool, address: u
 
 fn write_lanes(rows: &mut [u8], at: usize, values: [u32; LaneWord::LANES], place: u32)
     requires { ⌜ at + lanes ≤ length (now rows) ⌝ }
-    ensures { λ r. ⌜ now (rows .exit) ≡ sets (now (rows .entry)) at (map (byteValue place) values) ⌝ }
+    ensures { λ r. ⌜ now (rows .exit) ≡ sets (now (rows .entry)) at (map (λ v. byteOf v place) values) ⌝ }
 {
     let mut k: usize = 0;
     while k < LaneWord::LANES {
-        rows[at + k] = byte_of(values[k], place);
+        rows[at + k] = stored_byte(values[k], place);
         k += 1;
     }
 }
 
 fn write_row(rows: &mut [u8], row: usize, address: u32, word: LaneWord, place: u32)
     requires { ⌜ row * rowBytes + rowBytes ≤ length (now rows) ⌝ }
-    ensures { λ r. ⌜ now (rows .exit) ≡ writeRow (now (rows .entry)) row (laneRow address (byteOf place word)) ⌝ }
+    ensures { λ r. ⌜ now (rows .exit) ≡ writeRow (now (rows .entry)) row (laneRow address (wordByte place word)) ⌝ }
 {
     let at = row * ROW_BYTES;
     write_head(rows, at, word.known, false, address);
@@ -168,7 +168,7 @@ fn write_row(rows: &mut [u8], row: usize, address: u32, word: LaneWord, place: u
 
 // Store byte `place` of a word; a byte that finds no row is not stored.
 pub fn store_byte(rows: &mut [u8], address: u32, word: LaneWord, place: u32)
-    ensures { λ r. ⌜ now (rows .exit) ≡ storeByte (now (rows .entry)) address (byteOf place word) ⌝ }
+    ensures { λ r. ⌜ now (rows .exit) ≡ storeByte (now (rows .entry)) address (wordByte place word) ⌝ }
 {
     let found = find(rows, address);
     match found {
@@ -219,14 +219,14 @@ pub fn store_value(rows: &mut [u8], address: u32, width: u32, value: u32)
         store_value_byte(
             rows,
             std::num::wrapping_add_u32(address, k),
-            byte_of(value, k),
+            stored_byte(value, k),
         );
         k += 1;
     }
 }
 
 fn is_new(rows: &[u8], address: u32) -> u32
-    ensures { λ r. ⌜ r ≡ newAt (findRow (now (rows .entry)) address) ⌝ }
+    ensures { λ r. ⌜ r ≡ newAt (rowOf (now (rows .entry)) address) ⌝ }
 {
     let found = find(rows, address);
     match found {

@@ -1,6 +1,5 @@
 use native.Mathlib.Omega.{arith}
 use borrow.Author.Needs.{needs}
-use denote.Ref.{now}
 use Rattle.lane_access.proofs.Loads.{lies-left}
 use Rattle.lane_access.proofs.image_number.Statement.{statement}
 use Rattle.lane_access.proofs.image_number.Tie as tie
@@ -16,13 +15,11 @@ image-number-spec =
     (λ c. search needs)
     (λ c.
     let e = c .before .before .before in
-    let a = e .before .before .before .args in
     rw (c .before .before .if2 .taken)
-    (lies-left (now (a .image)) (a .address) (e .before .offset-of .result) (c .get-u16 .result) _ (omega arith) (e .before .offset-of .ensures) (e .if1 .left) (c .before .if3 .taken) (c .get-u16 .ensures)))
+    (lies-left (omega arith) (e .before .offset-of .ensures) (e .if1 .left) (c .before .if3 .taken) (c .get-u16 .ensures)))
     (λ c κs. search needs)
     (λ c.
     let e = c .before .before .before .before in
-    let a = e .before .before .before .args in
     rw (c .before .before .if4 .taken)
-    (lies-left (now (a .image)) (a .address) (e .before .offset-of .result) (c .get-u32 .result) _ (omega arith) (e .before .offset-of .ensures) (e .if1 .left) (c .before .if5 .taken) (c .get-u32 .ensures)))
+    (lies-left (omega arith) (e .before .offset-of .ensures) (e .if1 .left) (c .before .if5 .taken) (c .get-u32 .ensures)))
     (λ c. search needs))

@@ -1,5 +1,3 @@
-use mathlib.Core.Path.{_∙_}
-use native.Mathlib.Omega.{arith}
 use borrow.Author.Needs.{needs}
 use Rattle.lane_memory.specs.Rows.{held}
 use Rattle.lane_memory.proofs.Search.{Seeking, seek-start, seek-none, seek-full, seek-empty, seek-match, seek-on}
@@ -19,12 +17,12 @@ find-spec =
     (λ c. rw (c .tries .ensures) (seek-start _ _ _ (c .before .if1 .left)))
     (λ c κs. search needs)
     (λ c. search needs)
-    (λ c. let b = c .before .before .before in seek-empty (b .before .loop .inv) (b .loop-test .taken) (c .before .before .look .ensures) (c .enum-told .given .1))
+    (λ c. let b = c .before .before .before in seek-empty (b .before .loop .inv) (b .loop-test .taken) (c .before .before .probe-row .ensures) (c .enum-told .given .1))
     (λ c. search needs)
-    (λ c. let b = c .before .before .before in seek-match (b .before .loop .inv) (b .loop-test .taken) (c .before .before .look .ensures) (c .enum-told2 .given .1))
+    (λ c. let b = c .before .before .before in seek-match (b .before .loop .inv) (b .loop-test .taken) (c .before .before .probe-row .ensures) (c .enum-told2 .given .1))
     (λ c. search needs)
     (λ c. search needs)
     (λ c κs. search needs)
     (λ c. search needs)
-    (λ c. let b = c .before .before .before .before in seek-on (b .before .loop .inv) (b .loop-test .taken) (c .before .before .before .look .ensures) (c .before .enum-told3 .given .1) (c .onward .ensures))
+    (λ c. let b = c .before .before .before .before in seek-on (b .before .loop .inv) (b .loop-test .taken) (c .before .before .before .probe-row .ensures) (c .before .enum-told3 .given .1) (c .onward .ensures))
     (λ c. seek-full (c .before .loop .inv) (c .loop-test .left)))

@@ -3,7 +3,7 @@ use borrow.Author.Needs.{needs}
 use denote.Ref.{now}
 use Rattle.lane_memory.specs.Rows.{loadByte}
 use Rattle.lane_memory.proofs.Laws.{joined-value}
-use Rattle.lane_memory.proofs.Tables.{at-inside}
+use Rattle.lane_memory.proofs.HashTables.{at-inside}
 use Rattle.lane_memory.proofs.join_values.Statement.{statement}
 use Rattle.lane_memory.proofs.join_values.Tie as tie
 

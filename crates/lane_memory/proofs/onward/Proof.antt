@@ -8,6 +8,6 @@ onward-spec =
     tie.close
     (tie.spec
     (λ c κs. search needs)
-    (λ c. rw (lt-ltb _ _ (c .before .if1 .taken)) (c .after .ensures))
+    (λ c. rw (lt-ltb _ _ (c .before .if1 .taken)) (c .next-row .ensures))
     (λ c κs. search needs)
     (λ c. rw (le-ltb _ _ (c .before .if1 .left)) (c .hop .ensures)))

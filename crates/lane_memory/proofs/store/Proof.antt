@@ -1,12 +1,12 @@
 use Prim.Native.Nat.{_-_}
 use borrow.Author.Needs.{needs}
-use Rattle.lane_memory.specs.Rows.{byteOf, laneRow, storeBytes}
+use Rattle.lane_memory.specs.Rows.{wordByte, laneRow, storeBytes}
 use Rattle.lane_memory.proofs.Loops.{Storing, store-start, store-step, store-exit}
 use Rattle.lane_memory.proofs.store.Statement.{statement}
 use Rattle.lane_memory.proofs.store.Tie as tie
 
 abbrev I : tie.InvT-loop
-I rows₀ address width word k₀ rows k = Storing rows₀ address (λ i x. laneRow x (byteOf i word)) width rows k
+I rows₀ address width word k₀ rows k = Storing rows₀ address (λ i x. laneRow x (wordByte i word)) width rows k
 
 pub store-spec : {M : Type 1} → statement M
 unfolding storeBytes

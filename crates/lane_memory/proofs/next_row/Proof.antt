@@ -1,10 +1,10 @@
 use borrow.Author.Needs.{needs}
 use borrow.Author.Tests.{lt-ltb, le-ltb}
-use Rattle.lane_memory.proofs.after.Statement.{statement}
-use Rattle.lane_memory.proofs.after.Tie as tie
+use Rattle.lane_memory.proofs.next_row.Statement.{statement}
+use Rattle.lane_memory.proofs.next_row.Tie as tie
 
-pub after-spec : {M : Type 1} → statement M
-after-spec =
+pub next-row-spec : {M : Type 1} → statement M
+next-row-spec =
     tie.close
     (tie.spec
     (λ c. search needs)

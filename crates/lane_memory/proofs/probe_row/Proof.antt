@@ -1,10 +1,10 @@
 use borrow.Author.Needs.{needs}
 use Rattle.lane_memory.proofs.RowBytes.{sees-empty, sees-match, sees-other}
-use Rattle.lane_memory.proofs.look.Statement.{statement}
-use Rattle.lane_memory.proofs.look.Tie as tie
+use Rattle.lane_memory.proofs.probe_row.Statement.{statement}
+use Rattle.lane_memory.proofs.probe_row.Tie as tie
 
-pub look-spec : {M : Type 1} → statement M
-look-spec =
+pub probe-row-spec : {M : Type 1} → statement M
+probe-row-spec =
     tie.close
     (tie.spec
     (λ c. search needs)
