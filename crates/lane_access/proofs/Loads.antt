@@ -91,9 +91,9 @@ told-more told k x = refl
 -- ---- what one value tells
 
 -- a told value is the word's in every lane: putting it in the word's place changes nothing
-told-same : (u : Told) (w : LaneWord) → ((v : ℕ) → u ≡ Value v → w ≡ constant lanes v) → wordOf u w ≡ w
-told-same (Value v) w h = sym (h v refl)
-told-same Lanes w h = refl
+told-fits : (u : Told) (w : LaneWord) → ((v : ℕ) → u ≡ Value v → w ≡ constant lanes v) → wordOf u w ≡ w
+told-fits (Value v) w h = sym (h v refl)
+told-fits Lanes w h = refl
 
 seen-told : (image rows : List ℕ) (a : ℕ) → wordOf (toldSeen image rows a) (seen image rows a) ≡ seen image rows a
 unfolding toldSeen seen
@@ -103,7 +103,7 @@ seen-told image rows a = go (ltb (offsetOf a) (length image))
         → wordOf (cond b (Value (initial image a)) (toldByte rows a 0)) (cond b (constant lanes (initial image a)) (loadByte rows a 0))
         ≡ cond b (constant lanes (initial image a)) (loadByte rows a 0)
     go true = refl
-    go false = told-same (toldByte rows a 0) (loadByte rows a 0) (λ v e. told-byte rows a 0 e)
+    go false = told-fits (toldByte rows a 0) (loadByte rows a 0) (λ v e. told-byte rows a 0 e)
 
 by-told : (f : ℕ → ℕ → ℕ) (u v : Told) (x y : LaneWord) → wordOf u x ≡ x → wordOf v y ≡ y → wordOf (toldBy f u v) (binary f x y) ≡ binary f x y
 by-told f (Value a) (Value b) x y p q = rw (← p, ← q, binary-constants f lanes a b)

@@ -19,8 +19,7 @@ use lane_word::Uniform;
 use riscv_decode::Decoded;
 use riscv_decode::Fetched;
 use riscv32imc::Expanded;
-use riscv32imc::arithmetic::Binary;
-use riscv32imc::arithmetic::value;
+use riscv32imc::arithmetic::join;
 
 // The address past memory's end.
 pub const RV32_MEMORY_END: u32 = riscv32imc::RV32_IMAGE_BASE
@@ -193,7 +192,7 @@ fn told_join(image: &[u8], rows: &[u8], address: u32, width: u32) -> Told
         left -= 1;
         let told = told_at(image, rows, address + left);
         match told {
-            Told::Value(byte) => number = value(Binary::Join, byte, number),
+            Told::Value(byte) => number = join(byte, number),
             Told::Lanes => return Told::Lanes,
         }
     }

@@ -12,7 +12,7 @@ use lib.Dec.{eqb}
 use lib.ListN.{length}
 use Rattle.lane_word.specs.declared.LaneWord.{LaneWord}
 use Rattle.predicate_semantics.specs.Memory.{Written, put}
-use Rattle.lane_memory.specs.Lent.{rowBytes, rowCount}
+use Rattle.lane_memory.specs.LentRows.{rowBytes, rowCount}
 use Rattle.lane_memory.specs.Search.{probe, scan, tries, findIn}
 use Rattle.lane_memory.specs.Rows.{held, rowOf}
 use Rattle.lane_memory.specs.Holds.{lookup, content, one, used, HashTable}

@@ -19,7 +19,7 @@ use Rattle.lane_word.specs.declared.LaneWord.{LaneWord}
 use Rattle.lane_word.specs.declared.Told.the-variants.{Value, Lanes}
 use Rattle.lane_word.specs.Word.{lanes, constant, binary, zip}
 use Rattle.predicate_semantics.specs.Memory.{Written, byteAt, put, write}
-use Rattle.lane_memory.specs.Lent.{headBytes, rowBytes, rowCount, cleared}
+use Rattle.lane_memory.specs.LentRows.{headBytes, rowBytes, rowCount, cleared}
 use Rattle.lane_memory.specs.Search.{findIn}
 use Rattle.lane_memory.specs.Rows.{rowAt, laneByte, rowByte, held, rowOf, wordByte, laneRow, valueRow, writeRow, storeAt, storeRow, storeByte, storeRows, storeBytes, storeValues, loadAt, loadByte, joined, Joined, toldAt, toldByte, newAt, newBytes, unmarkRows, unmarked}
 use Rattle.lane_memory.specs.Holds.{lookup, content, one, Holds}

@@ -8,7 +8,7 @@ use native.Mathlib.Omega.{arith}
 use lib.ListN.{length, getD, take, drop, set, replicate, length-set, length-replicate, drop-of-length-le}
 use lib.Seq.{take-all, take-suc, take-suc-set, drop-cons, sets}
 use Rattle.little_endian.proofs.SetLaws.{sets-over}
-use Rattle.lane_memory.specs.Lent.{rowBytes}
+use Rattle.lane_memory.specs.LentRows.{rowBytes}
 use Rattle.lane_memory.specs.Rows.{rowOf, storeRow, storeRows, newAt, newBytes, unmarkRows}
 use Rattle.lane_memory.specs.declared.Found.{Found}
 use Rattle.lane_memory.specs.declared.Found.the-variants.{At, Free, Full}

@@ -17,7 +17,7 @@ use Rattle.little_endian.proofs.NumberLaws.{value-bytes}
 use Rattle.little_endian.proofs.SetLaws.{sets-append}
 use Rattle.lane_word.specs.declared.LaneWord.{LaneWord}
 use Rattle.lane_word.specs.Word.{lanes, constant}
-use Rattle.lane_memory.specs.Lent.{headBytes, rowBytes}
+use Rattle.lane_memory.specs.LentRows.{headBytes, rowBytes}
 use Rattle.lane_memory.specs.Search.{probe}
 use Rattle.lane_memory.specs.Rows.{rowAt, laneByte, rowHolds, held, headOf, laneRow, valueRow, writeRow}
 use Rattle.lane_memory.specs.declared.Probe.the-variants.{Empty, Match, Other}

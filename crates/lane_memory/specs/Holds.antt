@@ -7,7 +7,7 @@ use Prim.Native.Nat.{ℕ, zero, suc, _+_, _<_}
 use lib.Dec.{eqb}
 use lib.ListN.{length}
 use Rattle.predicate_semantics.specs.Memory.{Written}
-use Rattle.lane_memory.specs.Lent.{rowCount}
+use Rattle.lane_memory.specs.LentRows.{rowCount}
 use Rattle.lane_memory.specs.Search.{findIn}
 use Rattle.lane_memory.specs.Rows.{held}
 use Rattle.lane_memory.specs.declared.Found.{Found}

@@ -1,6 +1,6 @@
 -- Written bytes in lent rows.
 -- What a run's promise cites:
-pub mod Lent
+pub mod LentRows
 -- What the functions here are equated with:
 pub mod Search
 pub mod Rows

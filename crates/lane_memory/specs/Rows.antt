@@ -17,7 +17,7 @@ use Rattle.predicate_semantics.specs.Memory.{Written}
 use Rattle.lane_memory.specs.Search.{findIn}
 use Rattle.lane_memory.specs.declared.Found.{Found}
 use Rattle.lane_memory.specs.declared.Found.the-variants.{At, Free, Full}
-pub use Rattle.lane_memory.specs.Lent.{headBytes, rowBytes, rowCount, cleared}
+pub use Rattle.lane_memory.specs.LentRows.{headBytes, rowBytes, rowCount, cleared}
 
 -- the bytes of row s
 abbrev pub rowAt : List ℕ → ℕ → List ℕ

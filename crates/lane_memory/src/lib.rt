@@ -7,14 +7,13 @@ ghost use lib.ListN.{length};
 ghost use lib.Seq.{sets};
 ghost use Rattle.riscv32imc.specs.Bits.{byteOf};
 ghost use Rattle.lane_word.specs.Word.{lanes, constant};
-ghost use Rattle.lane_memory.specs.Lent.{headBytes, rowBytes, rowCount, cleared};
+ghost use Rattle.lane_memory.specs.LentRows.{headBytes, rowBytes, rowCount, cleared};
 ghost use Rattle.lane_memory.specs.Search.{probe, next, hop, onward, hops, tries};
 ghost use Rattle.lane_memory.specs.Rows.{held, rowOf, wordByte, headOf, laneRow, valueRow, writeRow, storeByte, storeValue, storeBytes, storeValues, rowAt, laneByte, rowByte, loadByte, joined, Joined, toldRow, toldByte, newAt, newBytes, unmarked};
 use lane_word::LaneWord;
 use lane_word::Told;
-use riscv32imc::arithmetic::Binary;
 use riscv32imc::arithmetic::byte_of;
-use riscv32imc::arithmetic::value;
+use riscv32imc::arithmetic::join;
 
 // A row's head: a used mark, a known mark, a uniform mark, a zero, the address in 4 bytes.
 const HEAD_BYTES: usize = 8;
@@ -337,7 +336,7 @@ pub fn join_value(low: u32, values: &mut [u32])
     }
     let mut k: usize = 0;
     while k < LaneWord::LANES {
-        values[k] = value(Binary::Join, low, values[k]);
+        values[k] = join(low, values[k]);
         k += 1;
     }
 }
@@ -352,7 +351,7 @@ fn join_lanes(rows: &[u8], row: usize, values: &mut [u32])
     let first = row * ROW_BYTES + HEAD_BYTES;
     let mut k: usize = 0;
     while k < LaneWord::LANES {
-        values[k] = value(Binary::Join, wide(rows[first + k]), values[k]);
+        values[k] = join(wide(rows[first + k]), values[k]);
         k += 1;
     }
 }

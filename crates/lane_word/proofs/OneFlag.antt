@@ -1,8 +1,8 @@
 -- In the Rust all flags of one word agree, so one flag can stand for them (document 01, "Lane word"). Assumes nothing.
 use mathlib.Core.Bool.{Bool, true, false, _&&_}
-use mathlib.Core.List.{List, [], _∷_}
+use mathlib.Core.List.{List, _∷_}
 use mathlib.Core.Path.{_≡_, refl, ap, ap₂, _∙_}
-use Prim.Native.Nat.{ℕ, zero, suc, _<_}
+use Prim.Native.Nat.{ℕ, zero, suc}
 use native.Mathlib.Omega.{arith}
 use lib.ListN.{replicate}
 use Rattle.lane_word.specs.Flags.{Flags, unset, given, cloned, zipped, zipFlags, allKnown, flagOf, FlagsAgree, OneFlag}

@@ -8,7 +8,6 @@ use borrow.Author.Tests.{eq-eqb, eqb-true}
 use lib.Dec.{eqb}
 use lib.ListN.{length, getD, replicate, length-replicate, length-map}
 use Rattle.lane_word.specs.declared.LaneWord.{LaneWord}
-use Rattle.lane_word.specs.declared.Uniform.{Uniform}
 use Rattle.lane_word.specs.declared.Uniform.the-variants.{Value, Unknown, Uneven}
 use Rattle.lane_word.specs.declared.Told.{Told}
 use Rattle.lane_word.specs.declared.Told.the-variants as told

@@ -35,7 +35,7 @@ told-join-spec =
     let l = t .before .loop in
     let a = t .before .before .before .before .args in (
       omega (arith, l .inv .0),
-      ap Value (c .value .ensures)
+      ap Value (c .join .ensures)
           ∙ told-step (toldSeen (now (a .image)) (now (a .rows))) (a .width) (a .address) (l .inv .0) (t .loop-test .taken) (sym (n .told .given .1) ∙ k .told-at .ensures) (l .inv .1),
     ))
     (λ c. search needs)

@@ -6,7 +6,7 @@ use denote.Ref.{now}
 use lib.ListN.{take, drop}
 use Rattle.riscv32imc.specs.Bits.{join}
 use Rattle.lane_word.specs.Word.{lanes}
-use Rattle.lane_memory.specs.Lent.{headBytes}
+use Rattle.lane_memory.specs.LentRows.{headBytes}
 use Rattle.lane_memory.specs.Rows.{rowAt, laneByte}
 use Rattle.lane_memory.proofs.Laws.{joined-all, joined-none}
 use Rattle.lane_word.proofs.Tab.{Zipping, zip-start, zip-step, zip-exit}
@@ -37,7 +37,7 @@ join-lanes-spec =
     (λ c. search needs)
     (λ c. let i = c .before .before .before .before in let l = i .before in let a = l .before .before .before .before .args in
     zip-step (l .loop .inv) (i .loop-test .taken)
-    (c .before .before .wide .ensures ∙ row-value (now (a .rows)) (a .row) (l .loop .k) (i .loop-test .taken)) (c .value .ensures))
+    (c .before .before .wide .ensures ∙ row-value (now (a .rows)) (a .row) (l .loop .k) (i .loop-test .taken)) (c .join .ensures))
     (λ c. search needs)
     (λ c. let l = c .before in let e = l .before in let s = e .before .before .before in let a = s .args in
     zip-exit (l .loop .inv) (c .loop-test .left) (row-values (now (a .rows)) (a .row) (s .pre)) (e .if1 .left)

@@ -28,7 +28,7 @@ join-value-spec =
     (λ c. search needs)
     (λ c. search needs)
     (λ c. let l = c .before .before .before in let k = c .before .before .loop-test .taken in
-    zip-step (l .loop .inv) k (sym (getD-replicate lanes (l .loop .k) (l .before .before .before .args .low) 0 k)) (c .value .ensures))
+    zip-step (l .loop .inv) k (sym (getD-replicate lanes (l .loop .k) (l .before .before .before .args .low) 0 k)) (c .join .ensures))
     (λ c. search needs)
     (λ c. let l = c .before in let e = l .before in let a = e .before .before .args in
     zip-exit (l .loop .inv) (c .loop-test .left) (length-replicate lanes (a .low)) (e .if1 .left)
