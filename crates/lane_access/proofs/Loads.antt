@@ -25,7 +25,7 @@ use Rattle.predicate_semantics.specs.Choice.{choose}
 use Rattle.predicate_semantics.specs.Program.{memoryEnd, initial}
 use Rattle.predicate_semantics.specs.Memory.{LaneBytes, read}
 use Rattle.predicate_semantics.specs.Refusal.{Refusal, Tested, passed, refused, refuse, require, _>>=_}
-use Rattle.predicate_semantics.specs.Lane.{inside, agreedAs, agreed, access, accessAgreed, expandHalfword, fetchFour, fetch}
+use Rattle.predicate_semantics.specs.Lane.{inside, agreedAs, agreed, access, accessAgreed, decodeWord, expandHalfword, fetchFour, fetch}
 use Rattle.predicate_semantics.specs.Standing.{standingCore}
 use Rattle.lane_memory.specs.Rows.{loadByte, toldByte}
 use Rattle.lane_memory.proofs.Laws.{load-below, told-byte}
@@ -306,3 +306,14 @@ module _ (memory : LaneBytes) (pc steps : ℕ) where
       → fetch (inputs firstInput lanes) standingCore memory steps pc ≡ expandHalfword standingCore steps half
   unfolding fetch choose _>>=_
   fetch-half half h e = rw (h, ne-eqb (half % 4) 3 e)
+
+  -- its four bytes
+  pub four-whole : (word : ℕ) → accessAgreed (inputs firstInput lanes) 1 memory 4 pc ≡ passed word
+      → fetchFour (inputs firstInput lanes) standingCore memory steps pc ≡ decodeWord standingCore steps word 4
+  unfolding fetchFour _>>=_
+  four-whole word h = rw h
+
+  pub four-refused : (r : Refusal) → accessAgreed (inputs firstInput lanes) 1 memory 4 pc ≡ refused r
+      → fetchFour (inputs firstInput lanes) standingCore memory steps pc ≡ refused r
+  unfolding fetchFour _>>=_
+  four-refused r h = rw h
