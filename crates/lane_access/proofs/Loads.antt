@@ -19,6 +19,7 @@ use Rattle.lane_word.specs.declared.Told.{Told}
 use Rattle.lane_word.specs.declared.Told.the-variants.{Value, Lanes}
 use Rattle.lane_word.specs.Word.{unknown, constant, binary, zip, every, inputs, uniformOf, firstInput, lanes}
 use Rattle.lane_word.specs.Told.{wordOf, toldBy}
+use Rattle.lane_word.proofs.Clash.{clash}
 use Rattle.lane_word.proofs.Tab.{length-inputs}
 use Rattle.lane_word.proofs.ToldLaws.{binary-constants, uniform-constant}
 use Rattle.predicate_semantics.specs.Choice.{choose}
@@ -186,9 +187,6 @@ pub lies-told : (image rows : List ℕ) → AllBytes image → (v n a : ℕ) →
 lies-told image rows h v n a l f = ap Value (f .is) ∙ sym (told-image image rows h n a (f .small) l (f .fits))
 
 -- ---- a load after its range, and what its lanes agree on
-
-clash : _≡_ {A = ℕ} 0 1 → ⊥
-clash z = omega arith
 
 pub inside-fits : (a n : ℕ) → inside a n ≡ passed tt → (imageBase ≤ a) × (a + n ≤ memoryEnd)
 unfolding inside require refuse _>>=_

@@ -1,4 +1,4 @@
-// Loads and fetches of the lane run: the image, then zeros, under the written bytes.
+// Loads and fetches of the lane run, over the image and the written bytes.
 ghost use mathlib.Core.Path.{_≡_};
 ghost use Prim.Native.Nat.{ℕ, _+_, _≤_, _^_};
 ghost use lib.Dec.{ltb};
@@ -87,7 +87,7 @@ pub enum Fetching {
     Refused(Rv32Error),
 }
 
-// Range: an address below memory, then an access past its end.
+// Whether the bytes from an address on lie in memory: the first, then the last.
 pub fn range_of(address: u32, width: u32) -> Verdict
     ensures { λ r. ⌜ verdictOf r ≡ inside address width ⌝ }
 {

@@ -11,6 +11,7 @@ use borrow.Author.Tests.{eqb-true, eq-eqb, ne-eqb}
 use lib.Dec.{eqb}
 use lib.ListN.{length}
 use Rattle.lane_word.specs.declared.LaneWord.{LaneWord}
+use Rattle.lane_word.proofs.Clash.{clash}
 use Rattle.predicate_semantics.specs.Memory.{Written, put}
 use Rattle.lane_memory.specs.LentRows.{rowBytes, rowCount}
 use Rattle.lane_memory.specs.Search.{probe, scan, tries, findIn}
@@ -19,7 +20,7 @@ use Rattle.lane_memory.specs.Holds.{lookup, content, one, used, HashTabl
 use Rattle.lane_memory.specs.declared.Probe.the-variants.{Empty, Match, Other}
 use Rattle.lane_memory.specs.declared.Found.{Found}
 use Rattle.lane_memory.specs.declared.Found.the-variants.{At, Free, Full}
-use Rattle.lane_memory.proofs.Search.{clash, same?, Ends, scan-ends, scan-full, scan-same, Grown, scan-keep, scan-new}
+use Rattle.lane_memory.proofs.Search.{same?, Ends, scan-ends, scan-full, scan-same, Grown, scan-keep, scan-new}
 use Rattle.lane_memory.proofs.Memory.{entry, lookup-put, length-put, used-all, used-none, used-change}
 
 -- ---- what a probe says of its row

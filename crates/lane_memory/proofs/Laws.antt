@@ -18,6 +18,7 @@ use Rattle.riscv32imc.specs.Bits.{byteOf, join}
 use Rattle.lane_word.specs.declared.LaneWord.{LaneWord}
 use Rattle.lane_word.specs.declared.Told.the-variants.{Value, Lanes}
 use Rattle.lane_word.specs.Word.{lanes, constant, binary, zip}
+use Rattle.lane_word.proofs.Clash.{clash}
 use Rattle.predicate_semantics.specs.Memory.{Written, byteAt, put, write}
 use Rattle.lane_memory.specs.LentRows.{headBytes, rowBytes, rowCount, cleared}
 use Rattle.lane_memory.specs.Search.{findIn}
@@ -25,7 +26,7 @@ use Rattle.lane_memory.specs.Rows.{rowAt, laneByte, rowByte, held, rowOf
 use Rattle.lane_memory.specs.Holds.{lookup, content, one, Holds}
 use Rattle.lane_memory.specs.declared.Found.{Found}
 use Rattle.lane_memory.specs.declared.Found.the-variants.{At, Free, Full}
-use Rattle.lane_memory.proofs.Search.{clash, same?}
+use Rattle.lane_memory.proofs.Search.{same?}
 use Rattle.lane_memory.proofs.Bytes.{byte-size, byte-constant}
 use Rattle.lane_memory.proofs.Memory.{byteOr, byte-lookup, length-put, put-most, write-suc, lookup-write, used-most}
 use Rattle.lane_memory.proofs.HashTables.{Has, at-has, free-none, full-used, table-none, put-table}

@@ -11,11 +11,12 @@ use lib.Dec.{eqb}
 use lib.ListN.{length}
 use Rattle.lane_word.specs.declared.LaneWord.{LaneWord}
 use Rattle.lane_word.specs.Word.{unary}
+use Rattle.lane_word.proofs.Clash.{clash}
 use Rattle.predicate_semantics.specs.Choice.{choose}
 use Rattle.predicate_semantics.specs.Memory.{Written, byteAt, put, write}
 use Rattle.lane_memory.specs.Rows.{wordByte}
 use Rattle.lane_memory.specs.Holds.{lookup, one, used}
-use Rattle.lane_memory.proofs.Search.{clash, same?}
+use Rattle.lane_memory.proofs.Search.{same?}
 use Rattle.lane_memory.proofs.Bytes.{of-above, of-lowest}
 
 -- ---- one entry for an address

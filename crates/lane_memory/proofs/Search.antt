@@ -8,15 +8,13 @@ use native.Mathlib.Nat.{mod-lt}
 use native.Mathlib.Omega.{arith}
 use borrow.Author.Tests.{lt-ltb, le-ltb, ltb-true, ltb-false, eqb-true, eqb-false}
 use lib.Dec.{eqb, ltb}
+use Rattle.lane_word.proofs.Clash.{clash}
 use Rattle.predicate_semantics.specs.Memory.{Written}
 use Rattle.lane_memory.specs.Search.{probe, next, stride, hop, onward, ending, scan, hops, tries, findIn}
 use Rattle.lane_memory.specs.declared.Probe.{Probe}
 use Rattle.lane_memory.specs.declared.Probe.the-variants.{Empty, Match, Other}
 use Rattle.lane_memory.specs.declared.Found.{Found}
 use Rattle.lane_memory.specs.declared.Found.the-variants.{At, Free, Full}
-
-pub clash : _≡_ {A = ℕ} 0 1 → ⊥
-clash z = omega arith
 
 pub same? : (x y : ℕ) → (x ≡ y) ⊎ (x ≡ y → ⊥)
 same? x y = go (eqb x y) refl

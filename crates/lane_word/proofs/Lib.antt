@@ -1,4 +1,5 @@
 -- Laws that the proofs of several functions cite, and other crates.
+pub mod Clash
 pub mod Tab
 pub mod Scan
 pub mod Words

@@ -13,6 +13,7 @@ use Rattle.lane_word.specs.declared.Told.{Told}
 use Rattle.lane_word.specs.declared.Told.the-variants as told
 use Rattle.lane_word.specs.Word.{lanes, constant, zip, unary, binary, every, uniformOf}
 use Rattle.lane_word.specs.Told.{wordOf, toldBy}
+use Rattle.lane_word.proofs.Clash.{clash}
 use Rattle.lane_word.proofs.Tab.{length-zip}
 
 -- ---- sizes
@@ -95,9 +96,6 @@ word values known = record { values = values; known = known }
 constant-by : (w : LaneWord) (n v : ℕ) → w .known ≡ true → w .values ≡ replicate n v → w ≡ constant n v
 unfolding constant
 constant-by w n v k l = ap₂ word l k
-
-clash : _≡_ {A = ℕ} 0 1 → ⊥
-clash z = omega arith
 
 -- a word that is uniform is that value in every lane
 pub told-is : (w : LaneWord) (v : ℕ) → length (w .values) ≡ lanes → uniformOf w ≡ Value v → w ≡ constant lanes v
