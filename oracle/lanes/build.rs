@@ -19,7 +19,7 @@ fn main() {
         .map(|name| format!("#[allow(dead_code)]\n#[path = {:?}]\npub mod {name};\n", sources.join(name).with_extension("rs")))
         .concat();
     fs::write(PathBuf::from(env::var_os("OUT_DIR").unwrap()).join("sources.rs"), modules).unwrap();
-    let library = folder("LANE_LIBRARY", "liblane_library.a", Some(root.join("../../target/staticlib")));
+    let library = folder("LANE_LIBRARY", "liblane_exports.a", Some(root.join("../../target/staticlib")));
     println!("cargo:rustc-link-search=native={}", library.display());
-    println!("cargo:rustc-link-lib=static=lane_library");
+    println!("cargo:rustc-link-lib=static=lane_exports");
 }

@@ -167,7 +167,7 @@ def program(name, tell):
 
 def shared_object(tell):
     """The path of the library as a shared object."""
-    return bring(os.path.join(TARGET, 'staticlib', 'liblane_library.so'), 'lane_library', tell, make_shared)
+    return bring(os.path.join(TARGET, 'staticlib', 'liblane_exports.so'), 'lane_exports', tell, make_shared)
 
 
 def make_shared(product, name, tell):

@@ -33,7 +33,7 @@ use Rattle.riscv32imc_predicate.specs.declared.PredicateRun.{PredicateRun}
 use Rattle.riscv32imc_predicate.specs.Tracking.{entryCount}
 use Rattle.riscv32imc_predicate.specs.Outcome.{resultBy, executionIn, eventsIn, runOver, Ran}
 use Rattle.lane_library.specs.Inputs.{symbolBytes, programImageBytes, symbolsIn, imageIn, taken}
-use Rattle.lane_library.specs.Outcome.{answerOf, outcomeOf, sizeRefusal, imageRecord, imageTrace, recordBy, traceBy, Gives, Promise, ImageRuns, LaneRuns}
+use Rattle.lane_library.specs.Outcome.{answerOf, outcomeOf, sizeRefusal, imageRecord, recordBy, traceBy, Gives, LentMemory, ImageRuns, LaneRuns}
 use Rattle.lane_library.proofs.Promise.{promise-run, promise-refused}
 
 pub taken-least : (input : List ℕ) → taken input ≡ true → symbolBytes ≤ length input
@@ -44,85 +44,90 @@ taken-least input e =
 pub image-part : (input : List ℕ) → take (length input - symbolBytes) (drop symbolBytes input) ≡ imageIn input
 image-part input = ap (λ (n : ℕ). take n (imageIn input)) (sym (length-drop symbolBytes input)) ∙ take-length (imageIn input)
 
-module _ (image : List ℕ) (symbols : Rv32SymbolLayout) (n entries : ℕ) (s : LaneState) (lent : List ℕ) where
+-- a run, what it was given, and what is written of it
+pub record WrittenRun : Type 0 where
+  pub image : List ℕ
+  pub symbols : Rv32SymbolLayout
+  pub before : LentMemory
+  pub after : LentMemory
+  pub run : PredicateRun
+  pub ran : Ran image symbols (before .rows) (before .trace) run (after .rows) (after .trace)
+  pub outcome : RecordOutcome
+  pub outcome-is : outcome ≡ outcomeOf run
+  pub answer : WriteAnswer
+  pub writes : Writes (given outcome (after .trace)) (before .output) answer (after .output)
+
+module _ (c : WrittenRun) where
+  abbrev ended : Ended
+  ended = runOver (c .image) (c .symbols) (c .before .rows) (c .before .trace)
+
+  abbrev rows : ℕ
+  rows = rowCount (c .before .rows)
+
+  abbrev entries : ℕ
+  entries = entryCount (c .before .trace)
+
+  abbrev outcomeBy : Tested Result → RecordOutcome
+  outcomeBy t = outcomeIn (c .image) (c .symbols) rows entries (ended .state) t
+
   -- answer, numbers and events are those of the lane run's answer t
-  outcome-by : (a : PredicateAnswer) (x : PredicateTransducerExecution) (es : List CompiledMmioEvent) (t : Tested Result)
-      → resultBy a x es lent ≡ t → x ≡ executionIn image symbols n entries s t → es ≡ eventsIn t
-      → _≡_ {A = RecordOutcome} (record { answer = answerOf a (s .steps); execution = x; events = es }) (outcomeIn image symbols n entries s t)
-  outcome-by answer.Accepted x es (passed r) q p f =
-      ap (λ (y : PredicateTransducerExecution). record { answer = recorded.Accepted; execution = y; events = es }) p
-      ∙ ap (λ (ys : List CompiledMmioEvent). record { answer = recorded.Accepted; execution = executionIn image symbols n entries s (passed r); events = ys }) f
-  outcome-by answer.Accepted x es (Refusal.refused g) q p f = let z : _≡_ {A = ℕ} 0 1 = cc in absurd (omega arith)
-  outcome-by (answer.Refused y) x es (passed r) q p f = let z : _≡_ {A = ℕ} 0 1 = cc in absurd (omega arith)
-  outcome-by (answer.Refused y) x es (Refusal.refused g) q p f =
+  outcome-by : (a : PredicateAnswer) (t : Tested Result) → resultBy a (c .run .execution) (c .run .events) (c .after .trace) ≡ t
+      → record { answer = answerOf a (ended .state .steps); execution = executionIn (c .image) (c .symbols) rows entries (ended .state) t; events = eventsIn t } ≡ outcomeBy t
+  outcome-by answer.Accepted (passed r) q = refl
+  outcome-by answer.Accepted (Refusal.refused g) q = let z : _≡_ {A = ℕ} 0 1 = cc in absurd (omega arith)
+  outcome-by (answer.Refused y) (passed r) q = let z : _≡_ {A = ℕ} 0 1 = cc in absurd (omega arith)
+  outcome-by (answer.Refused y) (Refusal.refused g) q =
       let same : refusalOf y ≡ g = cc in
-      ap (λ (k : Refusal.Refusal). record { answer = recorded.Refused (refusalIn image symbols n entries s k); execution = x; events = es }) same
-      ∙ ap (λ (z : PredicateTransducerExecution). record { answer = recorded.Refused (refusalIn image symbols n entries s g); execution = z; events = es }) p
-      ∙ ap (λ (ys : List CompiledMmioEvent).
-      record { answer = recorded.Refused (refusalIn image symbols n entries s g); execution = executionIn image symbols n entries s (Refusal.refused g); events = ys }) f
+      ap (λ (k : Refusal.Refusal). refusedOutcome (refusalIn (c .image) (c .symbols) rows entries (ended .state) k)) same
 
-module _ (image : List ℕ) (symbols : Rv32SymbolLayout) (rows trace : List ℕ) (r : PredicateRun) (rows′ trace′ : List ℕ)
-    (h : Ran image symbols rows trace r rows′ trace′) where
-  abbrev e : Ended
-  e = runOver image symbols rows trace
+  told : outcomeOf (c .run) ≡ outcomeBy (ended .answer)
+  told = rw (c .ran .completed, c .ran .numbers, c .ran .found) (outcome-by (c .run .answer) (ended .answer) (c .ran .result))
 
-  abbrev outcome : RecordOutcome
-  outcome = outcomeIn image symbols (rowCount rows) (entryCount trace) (e .state) (e .answer)
-
-  told : outcomeOf r ≡ outcome
-  told =
-      ap (λ (k : ℕ). record { answer = answerOf (r .answer) k; execution = r .execution; events = r .events }) (h .completed)
-      ∙ outcome-by image symbols (rowCount rows) (entryCount trace) (e .state) trace′ (r .answer) (r .execution) (r .events) (e .answer)
-      (h .result) (h .numbers) (h .found)
-
-  given-run : given (outcomeOf r) trace′ ≡ some (imageRecord image symbols rows trace)
+  given-run : given (c .outcome) (c .after .trace) ≡ some (imageRecord (c .image) (c .symbols) (c .before .rows) (c .before .trace))
   given-run =
-      ap (λ (o : RecordOutcome). given o trace′) told
-      ∙ ap (λ (t : List ℕ). given outcome t) (h .entries)
-      ∙ keeps-rules image symbols (rowCount rows) (entryCount trace) trace
+      ap (λ (o : RecordOutcome). given o (c .after .trace)) (c .outcome-is ∙ told)
+      ∙ ap (λ (t : List ℕ). given (outcomeBy (ended .answer)) t) (c .ran .entries)
+      ∙ keeps-rules (c .image) (c .symbols) rows entries (c .before .trace)
 
   -- what the writer is given of a run is its record: never 15
-  pub image-runs : (o : RecordOutcome) (output : List ℕ) (w : WriteAnswer) (output′ : List ℕ)
-      → o ≡ outcomeOf r → Writes (given o trace′) output w output′
-      → ImageRuns image symbols rows trace output w rows′ trace′ output′
-  image-runs o output w output′ p v =
-      let writes = subst (λ (q : Option Record). Writes q output w output′) (ap (λ (x : RecordOutcome). given x trace′) p ∙ given-run) v in
+  pub image-runs : ImageRuns (c .image) (c .symbols) (c .before) (c .answer) (c .after)
+  image-runs =
+      let writes = subst (λ (q : Option Record). Writes q (c .before .output) (c .answer) (c .after .output)) given-run (c .writes) in
       record {
-        gives = record { writes = writes; zero = h .zero };
-        entries = h .entries;
-        promise = promise-run image symbols (rowCount rows) (entryCount trace) output w output′ writes;
+        gives = record { writes = writes; zero = c .ran .zero };
+        entries = c .ran .entries;
+        promise = promise-run (c .image) (c .symbols) rows entries (c .before .output) (c .answer) (c .after .output) writes;
       }
 
 -- refusal 1 keeps the rules, whatever the trace
-pub gives-refusal : (rows rows′ : List ℕ) (o : RecordOutcome) (t output : List ℕ) (w : WriteAnswer) (output′ : List ℕ)
+pub gives-refusal : {rows rows′ output output′ : List ℕ} {o : RecordOutcome} {w : WriteAnswer} (t : List ℕ)
     → rows′ ≡ cleared rows → o ≡ refusedOutcome sizeRefusal → Writes (given o t) output w output′
     → Gives (refused sizeRefusal) rows output w rows′ output′
-gives-refusal rows rows′ o t output w output′ z p v = record {
+gives-refusal {output = output} {output′ = output′} {w = w} t z p v = record {
   writes = subst (λ (x : RecordOutcome). Writes (given x t) output w output′) p v;
   zero = z;
 }
 
-module _ (input rows trace output : List ℕ) (w : WriteAnswer) (rows′ trace′ output′ : List ℕ) where
+module _ (input : List ℕ) (before : LentMemory) (w : WriteAnswer) (after : LentMemory) where
+  abbrev GivesBy : Bool → Type 0
+  GivesBy b = Gives (recordBy b input (before .rows) (before .trace)) (before .rows) (before .output) w (after .rows) (after .output)
+
+  abbrev LeavesBy : Bool → Type 0
+  LeavesBy b = after .trace ≡ traceBy b input (before .rows) (before .trace)
+
   -- an input that the program doesn't take
-  pub runs-refused : false ≡ taken input → trace′ ≡ trace → Gives (refused sizeRefusal) rows output w rows′ output′
-      → LaneRuns input rows trace output w rows′ trace′ output′
+  pub runs-refused : false ≡ taken input → after .trace ≡ before .trace → GivesBy false → LaneRuns input before w after
   runs-refused p t g = record {
-    gives = subst (λ (b : Bool). Gives (recordBy b input rows trace) rows output w rows′ output′) p g;
-    entries = subst (λ (b : Bool). trace′ ≡ traceBy b input rows trace) p t;
-    promise = promise-refused (imageIn input) (symbolsIn input) sizeRefusal output w output′ (g .writes);
+    gives = subst GivesBy p g;
+    entries = subst LeavesBy p t;
+    promise = promise-refused (imageIn input) (symbolsIn input) sizeRefusal (before .output) w (after .output) (g .writes);
   }
 
   -- one that it takes
-  pub runs-taken : true ≡ taken input
-      → (image : List ℕ) (symbols : Rv32SymbolLayout) → image ≡ imageIn input → symbols ≡ symbolsIn input
-      → ImageRuns image symbols rows trace output w rows′ trace′ output′
-      → LaneRuns input rows trace output w rows′ trace′ output′
-  runs-taken p image symbols i s h =
-      let q : ImageRuns (imageIn input) (symbolsIn input) rows trace output w rows′ trace′ output′ =
-      subst (λ (y : Rv32SymbolLayout). ImageRuns (imageIn input) y rows trace output w rows′ trace′ output′) s
-      (subst (λ (x : List ℕ). ImageRuns x symbols rows trace output w rows′ trace′ output′) i h) in
-      record {
-        gives = subst (λ (b : Bool). Gives (recordBy b input rows trace) rows output w rows′ output′) p (q .gives);
-        entries = subst (λ (b : Bool). trace′ ≡ traceBy b input rows trace) p (q .entries);
-        promise = q .promise;
-      }
+  pub runs-taken : {image : List ℕ} {symbols : Rv32SymbolLayout} → true ≡ taken input → image ≡ imageIn input → symbols ≡ symbolsIn input
+      → ImageRuns image symbols before w after → LaneRuns input before w after
+  runs-taken {image} {symbols} p i s h =
+      let q : ImageRuns (imageIn input) (symbolsIn input) before w after =
+      subst (λ (y : Rv32SymbolLayout). ImageRuns (imageIn input) y before w after) s
+      (subst (λ (x : List ℕ). ImageRuns x symbols before w after) i h) in
+      record { gives = subst GivesBy p (q .gives); entries = subst LeavesBy p (q .entries); promise = q .promise }

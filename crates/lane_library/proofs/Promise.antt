@@ -22,7 +22,7 @@ use Rattle.predicate_semantics.specs.Lane.{LaneState, Ended, execution}
 use Rattle.predicate_semantics.specs.RecordRules.{Accepted}
 use Rattle.predicate_semantics.specs.Standing.{lastInput, standing, setup, standingLaneRun, standingScalarRun}
 use Rattle.predicate_semantics.specs.Blank.{noEvents}
-use Rattle.predicate_semantics.specs.Trace.{traceBytes, stepsAt}
+use Rattle.predicate_semantics.specs.Trace.{entryBytes, traceBytes, stepsAt}
 use Rattle.predicate_semantics.proofs.RecordRules as Rules
 use Rattle.predicate_semantics.proofs.TraceLaws.{standing-completed, standing-trace-fits, trace-back}
 use Rattle.predicate_semantics.proofs.Guarantee.{guarantee}
@@ -63,6 +63,26 @@ never f t g t′ h a =
     let c : recorded.Accepted ≡ recorded.Refused f = sym a ∙ ap (λ (o : RecordOutcome). o .answer) (h .outcome) in
     let z : _≡_ {A = ℕ} 0 1 = cc in absurd (omega arith)
 
+-- what is read where the lent trace has room, which `done` says
+read-by : {o : RecordOutcome} {t′ : List ℕ} (b : Bool) (x : RecordOutcome) (t u : List ℕ) → done ≡ cond {A = Said} b done (refuses 14)
+    → o ≡ cond b x noOutcome → t′ ≡ cond b u t → resultRead o t′ ≡ resultRead x u
+read-by true x t u d p q = rw (p, q)
+read-by false x t u d p q = let z : _≡_ {A = ℕ} 0 1 = cc in absurd (omega arith)
+
+-- a record that a reader took for an acceptance
+record ReadAccepted (x : Record) : Type 0 where
+  lent : List ℕ
+  reading : RecordReading
+  left : List ℕ
+  reads : Reads (some x) lent reading left
+  is-done : readSaid (reading .answer) ≡ done
+  is-accepted : reading .outcome .answer ≡ recorded.Accepted
+
+-- each input's scalar run answers this
+abbrev EachInput : List ℕ → Rv32SymbolLayout → Result → Type 0
+EachInput image symbols result =
+    (i : ℕ) → firstInput ≤ i → i ≤ lastInput → (others : ℕ → ℕ) → standingScalarRun image symbols i others ≡ some result
+
 module _ (image : List ℕ) (symbols : Rv32SymbolLayout) (rows entries : ℕ) where
   abbrev e : Ended
   e = standingLaneRun image symbols rows entries
@@ -91,17 +111,11 @@ module _ (image : List ℕ) (symbols : Rv32SymbolLayout) (rows entries : ℕ) wh
     unfolding execution
     read-back = rw (same-trace, same-events) refl
 
-    read-by : (b : Bool) (o : RecordOutcome) (t′ : List ℕ) → done ≡ cond {A = Said} b done (refuses 14)
-        → o ≡ cond b (acceptedOutcome numbers (r .events)) noOutcome → t′ ≡ cond b (over (traceBytes (r .trace)) t) t
-        → resultRead o t′ ≡ r
-    read-by true o t′ d p u = rw (p, u) read-back
-    read-by false o t′ d p u = let z : _≡_ {A = ℕ} 0 1 = cc in absurd (omega arith)
-
   as-lent : setup rows entries .entries ≡ entries
   unfolding setup
   as-lent = refl
 
-  -- the record is no longer than its entries and 32 events make it
+  -- the record is no longer than its entries and the most events make it
   size-by : (a : Tested Result) → e .answer ≡ a → length (encode (recordIn image symbols rows entries s a)) ≤ recordBytes entries
   size-by (passed r) q =
       let h = ended r q [] in
@@ -112,23 +126,27 @@ module _ (image : List ℕ) (symbols : Rv32SymbolLayout) (rows entries : ℕ) wh
   pub size-fits : length (encode (runRecord image symbols rows entries)) ≤ recordBytes entries
   size-fits = size-by (e .answer) refl
 
-  answered : (a : Tested Result) → e .answer ≡ a
-      → (t : List ℕ) (g : RecordReading) (t′ : List ℕ) → Reads (some (recordIn image symbols rows entries s a)) t g t′
-      → readSaid (g .answer) ≡ done → g .outcome .answer ≡ recorded.Accepted
-      → (i : ℕ) → firstInput ≤ i → i ≤ lastInput
-      → (others : ℕ → ℕ) → standingScalarRun image symbols i others ≡ some (resultRead (g .outcome) t′)
-  answered (passed r) q t g t′ h d a i low high others =
+  answered : (a : Tested Result) → e .answer ≡ a → (h : ReadAccepted (recordIn image symbols rows entries s a))
+      → EachInput image symbols (resultRead (h .reading .outcome) (h .left))
+  answered (passed r) q h i low high others =
       guarantee image symbols rows entries r q i (omega arith) (omega arith) others
       ∙ ap (λ (x : Result). some x)
-      (sym (read-by r q t (leb (numbers r q t .«symbolic_transitions» * 13) (length t)) (g .outcome) t′ (sym d ∙ h .answer) (h .outcome) (h .trace)))
-  answered (Refusal.refused f) q t g t′ h d a i low high others =
-      absurd (never _ t g t′ h a)
+      (sym (read-by (leb (numbers r q (h .lent) .«symbolic_transitions» * entryBytes) (length (h .lent))) _ _ _ (sym (h .is-done) ∙ h .reads .answer) (h .reads .outcome) (h .reads .trace)
+      ∙ read-back r q (h .lent)))
+  answered (Refusal.refused f) q h i low high others = absurd (never _ _ _ _ (h .reads) (h .is-accepted))
 
   -- the promise, of what is written of a run
   pub promise-run : (output : List ℕ) (w : WriteAnswer) (output′ : List ℕ)
       → Writes (some (recordIn image symbols rows entries s (e .answer))) output w output′ → Promise image symbols w output′
   promise-run output w output′ h n p t g t′ v d a =
-      answered (e .answer) refl t g t′ (subst (λ (x : Option Record). Reads x t g t′) (decodes _ output w output′ h n p) v) d a
+      answered (e .answer) refl (record {
+        lent = t;
+        reading = g;
+        left = t′;
+        reads = subst (λ (x : Option Record). Reads x t g t′) (decodes _ output w output′ h n p) v;
+        is-done = d;
+        is-accepted = a;
+      })
 
 pub record-fits : RecordFits
 record-fits image symbols rows entries = size-fits image symbols rows entries

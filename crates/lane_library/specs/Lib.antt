@@ -1,4 +1,3 @@
 -- What the program's input stands for, and what the run over it answers and leaves.
 pub mod Inputs
 pub mod Outcome
-pub mod Boundary

@@ -1,4 +1,4 @@
--- The record that an input stands for, and what the run over it answers and leaves (document 01, "Record" and "Who causes a refusal").
+-- The record that an input stands for, and what the run over it answers and leaves (document 01, Record and Who causes a refusal).
 use mathlib.Core.Path.{_≡_}
 use mathlib.Core.Bool.{Bool, true, false}
 use mathlib.Core.Option.{some}
@@ -22,7 +22,7 @@ use Rattle.lane_record.specs.declared.RecordReading.{RecordReading}
 use Rattle.lane_record.specs.declared.WriteAnswer.{WriteAnswer}
 use Rattle.lane_record.specs.Format.{heading, event, step, size, Record, refused, encode}
 use Rattle.lane_record.specs.Decode.{decode}
-use Rattle.lane_record.specs.Answers.{wrote, done, readSaid, writeSaid, Reads, Writes}
+use Rattle.lane_record.specs.Answers.{Said, wrote, done, refuses, readSaid, writeSaid, Reads, Writes}
 use Rattle.lane_record.specs.Runs.{recordIn}
 use Rattle.riscv32imc_predicate.specs.declared.PredicateAnswer.{PredicateAnswer}
 use Rattle.riscv32imc_predicate.specs.declared.PredicateAnswer.the-variants as answer
@@ -31,7 +31,7 @@ use Rattle.riscv32imc_predicate.specs.Tracking.{entryCount}
 use Rattle.riscv32imc_predicate.specs.Outcome.{runOver}
 use Rattle.lane_library.specs.Inputs.{symbolsIn, imageIn, taken}
 
--- "A run's refusal gives number, role (else 0) and completed steps"
+-- Who causes a refusal: a run's answer as its record says it, with the steps that it completed
 abbrev pub answerOf : PredicateAnswer → ℕ → RecordAnswer
 answerOf answer.Accepted n = recorded.Accepted
 answerOf (answer.Refused x) n = recorded.Refused (record { number = refusalOf x .number; role = refusalOf x .role; steps = n })
@@ -40,9 +40,15 @@ answerOf (answer.Refused x) n = recorded.Refused (record { number = refusalOf x 
 abbrev pub outcomeOf : PredicateRun → RecordOutcome
 outcomeOf r = record { answer = answerOf (r .answer) (r .steps); execution = r .execution; events = r .events }
 
--- refusal 1, before any step
+-- Record: what an input that is not taken is refused with, before any step
 abbrev pub sizeRefusal : RecordRefusal
 sizeRefusal = record { number = 1; role = 0; steps = 0 }
+
+-- how many bytes an answer says are written
+abbrev pub count : Said → ℕ
+count done = 0
+count (wrote n) = n
+count (refuses k) = 0
 
 -- ---- the record, and the lent memory after it
 
@@ -52,43 +58,44 @@ runRecord image symbols rows entries =
     recordIn image symbols rows entries
     ((standingLaneRun image symbols rows entries) .state) ((standingLaneRun image symbols rows entries) .answer)
 
--- the longest record with so many entries, and that it is (LANE_RECORD_BYTES in include/lane.h)
+-- the longest record with so many entries (LANE_RECORD_BYTES in include/lane.h)
 abbrev pub recordBytes : ℕ → ℕ
 recordBytes entries = size heading + length noEvents * size event + entries * size step
 
+-- that it is
 abbrev pub RecordFits : Type 0
 RecordFits =
     (image : List ℕ) (symbols : Rv32SymbolLayout) (rows entries : ℕ)
     → length (encode (runRecord image symbols rows entries)) ≤ recordBytes entries
 
--- over the whole rows and entries that are lent
+-- the record of a run over the whole rows and entries that are lent
 abbrev pub imageRecord : List ℕ → Rv32SymbolLayout → List ℕ → List ℕ → Record
 imageRecord image symbols rows trace = runRecord image symbols (rowCount rows) (entryCount trace)
 
--- "Trace entries of completed steps stay, later ones are untouched"
+-- Who causes a refusal: the lent trace after it, with an entry for each completed step and the rest as it was
 abbrev pub imageTrace : List ℕ → Rv32SymbolLayout → List ℕ → List ℕ → List ℕ
 imageTrace image symbols rows trace = over (traceBytes ((runOver image symbols rows trace) .state .trace)) trace
 
--- the record that an input stands for: its image's, where it is one that the program takes
+-- Record: an input's record is its image's where it is taken
 abbrev pub inputRecord : Bool → List ℕ → ℕ → ℕ → Record
 inputRecord true input rows entries = runRecord (imageIn input) (symbolsIn input) rows entries
 inputRecord false input rows entries = refused sizeRefusal
 
+-- .. over the whole rows and entries that are lent
 abbrev pub recordBy : Bool → List ℕ → List ℕ → List ℕ → Record
 recordBy taken input rows trace = inputRecord taken input (rowCount rows) (entryCount trace)
 
+-- .. and the lent trace after it
 abbrev pub traceBy : Bool → List ℕ → List ℕ → List ℕ → List ℕ
 traceBy true input rows trace = imageTrace (imageIn input) (symbolsIn input) rows trace
 traceBy false input rows trace = trace
 
--- what is written of a record, with the rows after a run: never 15
+-- Who causes a refusal: a record is written or does not fit, never breaks the rules, and the rows are zero whatever they held
 pub record Gives (x : Record) (rows output : List ℕ) (r : WriteAnswer) (rows′ output′ : List ℕ) : Type 0 where
-  -- the record's bytes, or 16 and nothing
   pub writes : Writes (some x) output r output′
-  -- "rows may hold anything before a run and are zero after every run, refused ones included"
   pub zero : rows′ ≡ cleared rows
 
--- what a reader has of a result: "return value, steps, events and locations; its trace is the first lent entries"
+-- Scalar run: the result that a reader has of an outcome and the trace beside it
 abbrev pub resultRead : RecordOutcome → List ℕ → Result
 resultRead o t =
     record {
@@ -98,7 +105,7 @@ resultRead o t =
       events = take (o .execution .«event_count») (o .events);
     }
 
--- demand 3 of the bytes themselves: what read_record gives of a written 01 is each input's scalar run, whatever the 28 other registers hold
+-- Demand 3 of the bytes themselves: what read_record gives of an accepted record is each input's scalar run, whatever the other registers hold
 abbrev pub Promise : List ℕ → Rv32SymbolLayout → WriteAnswer → List ℕ → Type 0
 Promise image symbols r output =
     (n : ℕ) → writeSaid r ≡ wrote n
@@ -107,14 +114,24 @@ Promise image symbols r output =
     → (i : ℕ) → firstInput ≤ i → i ≤ lastInput
     → (others : ℕ → ℕ) → standingScalarRun image symbols i others ≡ some (resultRead (reading .outcome) t′)
 
+-- the bytes that a caller lends, before a call or after it
+pub record LentMemory : Type 0 where
+  pub rows : List ℕ
+  pub trace : List ℕ
+  pub output : List ℕ
+
+-- those three
+abbrev pub lent : List ℕ → List ℕ → List ℕ → LentMemory
+lent rows trace output = record { rows = rows; trace = trace; output = output }
+
 -- the one outcome for each image and its symbols, and every lent byte after it
-pub record ImageRuns (image : List ℕ) (symbols : Rv32SymbolLayout) (rows trace output : List ℕ) (r : WriteAnswer) (rows′ trace′ output′ : List ℕ) : Type 0 where
-  pub gives : Gives (imageRecord image symbols rows trace) rows output r rows′ output′
-  pub entries : trace′ ≡ imageTrace image symbols rows trace
-  pub promise : Promise image symbols r output′
+pub record ImageRuns (image : List ℕ) (symbols : Rv32SymbolLayout) (before : LentMemory) (r : WriteAnswer) (after : LentMemory) : Type 0 where
+  pub gives : Gives (imageRecord image symbols (before .rows) (before .trace)) (before .rows) (before .output) r (after .rows) (after .output)
+  pub entries : after .trace ≡ imageTrace image symbols (before .rows) (before .trace)
+  pub promise : Promise image symbols r (after .output)
 
 -- the one outcome for each input of the program's, and every lent byte after it
-pub record LaneRuns (input rows trace output : List ℕ) (r : WriteAnswer) (rows′ trace′ output′ : List ℕ) : Type 0 where
-  pub gives : Gives (recordBy (taken input) input rows trace) rows output r rows′ output′
-  pub entries : trace′ ≡ traceBy (taken input) input rows trace
-  pub promise : Promise (imageIn input) (symbolsIn input) r output′
+pub record LaneRuns (input : List ℕ) (before : LentMemory) (r : WriteAnswer) (after : LentMemory) : Type 0 where
+  pub gives : Gives (recordBy (taken input) input (before .rows) (before .trace)) (before .rows) (before .output) r (after .rows) (after .output)
+  pub entries : after .trace ≡ traceBy (taken input) input (before .rows) (before .trace)
+  pub promise : Promise (imageIn input) (symbolsIn input) r (after .output)

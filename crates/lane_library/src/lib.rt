@@ -1,8 +1,4 @@
 // The lane run from the program's input bytes to the record's bytes, over lent memory.
-mod exports;
-mod from_words;
-mod words;
-
 use lane_access::Role;
 use lane_access::Rv32Error;
 use lane_record::MAX_EVENTS;
@@ -17,16 +13,18 @@ use riscv32imc_predicate::PredicateAnswer;
 use riscv32imc_predicate::PredicateRun;
 ghost use mathlib.Core.Path.{_≡_};
 ghost use Rattle.lane_record.specs.Format.{refused};
-ghost use Rattle.lane_record.specs.Answers.{refusedOutcome};
+ghost use Rattle.lane_record.specs.Answers.{refusedOutcome, writeSaid};
 ghost use Rattle.lane_access.specs.Answers.{roleOf, refusalOf};
 ghost use Rattle.lane_library.specs.Inputs.{symbolsIn, taken};
-ghost use Rattle.lane_library.specs.Outcome.{answerOf, outcomeOf, sizeRefusal, Gives, ImageRuns, LaneRuns};
+ghost use Rattle.lane_library.specs.Outcome.{answerOf, outcomeOf, sizeRefusal, count, Gives, lent, ImageRuns, LaneRuns};
 
-// The bytes of the symbols before the image, the largest image, and the longest input that is taken.
+// The bytes of the symbols before the image.
 const SYMBOL_BYTES: usize = 12;
 
+// The largest image that an input can have.
 const IMAGE_BYTES: usize = 32_768;
 
+// The longest input that is taken.
 pub const INPUT_BYTES: usize = SYMBOL_BYTES + IMAGE_BYTES;
 
 fn role_number(role: Role) -> u8
@@ -122,7 +120,7 @@ fn outcome_of(run: PredicateRun) -> RecordOutcome
 }
 
 // A refusal before any step, without a role.
-fn refused_outcome(number: u8) -> RecordOutcome
+pub fn refused_outcome(number: u8) -> RecordOutcome
     ensures { λ r. ⌜ r ≡ refusedOutcome (record { number = number; role = 0; steps = 0 }) ⌝ }
 {
     let none = CompiledMmioEvent {
@@ -178,7 +176,18 @@ fn refuse_input(rows: &mut [u8], output: &mut [u8]) -> WriteAnswer
     lane_record::write_record(outcome, b"", output)
 }
 
-// The run of an image of up to 1,048,576 bytes; any other has the record of refusal 1.
+// How many bytes the writer says that it wrote.
+pub fn count_of(answer: WriteAnswer) -> usize
+    ensures { λ r. ⌜ r ≡ count (writeSaid answer) ⌝ }
+{
+    match answer {
+        WriteAnswer::Written(n) => n,
+        WriteAnswer::RulesBroken => 0,
+        WriteAnswer::OutputTooShort => 0,
+    }
+}
+
+// The run of an image by itself, up to the largest that the run takes; any other has the record of refusal 1.
 pub fn run_image(
     image: &[u8],
     symbols: Rv32SymbolLayout,
@@ -186,7 +195,7 @@ pub fn run_image(
     trace: &mut [u8],
     output: &mut [u8],
 ) -> WriteAnswer
-    ensures { λ r. ⌜ ImageRuns (now (image .entry)) symbols (now (rows .entry)) (now (trace .entry)) (now (output .entry)) r (now (rows .exit)) (now (trace .exit)) (now (output .exit)) ⌝ }
+    ensures { λ r. ⌜ ImageRuns (now (image .entry)) symbols (lent (now (rows .entry)) (now (trace .entry)) (now (output .entry))) r (lent (now (rows .exit)) (now (trace .exit)) (now (output .exit))) ⌝ }
 {
     let run = riscv32imc_predicate::execute_invalid_channel_predicate(image, symbols, rows, trace);
     let outcome = outcome_of(run);
@@ -195,7 +204,7 @@ pub fn run_image(
 
 // The run of an input as the program takes it: every input has a record, and 16 is the one refusal besides.
 pub fn run_input(input: &[u8], rows: &mut [u8], trace: &mut [u8], output: &mut [u8]) -> WriteAnswer
-    ensures { λ r. ⌜ LaneRuns (now (input .entry)) (now (rows .entry)) (now (trace .entry)) (now (output .entry)) r (now (rows .exit)) (now (trace .exit)) (now (output .exit)) ⌝ }
+    ensures { λ r. ⌜ LaneRuns (now (input .entry)) (lent (now (rows .entry)) (now (trace .entry)) (now (output .entry))) r (lent (now (rows .exit)) (now (trace .exit)) (now (output .exit))) ⌝ }
 {
     if takes(input) {
         let symbols = symbols_in(input);

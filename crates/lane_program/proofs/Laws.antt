@@ -19,10 +19,9 @@ use Rattle.lane_record.specs.Answers.{Said, wrote, refuses, writeSaid}
 use Rattle.lane_record.specs.Answers as Answers
 use Rattle.riscv32imc_predicate.specs.Tracking.{entryCount}
 use Rattle.lane_library.specs.Inputs.{programRows, programEntries, symbolsIn, imageIn, taken}
-use Rattle.lane_library.specs.Outcome.{inputRecord, recordBytes, Promise, LaneRuns}
-use Rattle.lane_library.specs.Boundary.{count}
+use Rattle.lane_library.specs.Outcome.{count, inputRecord, recordBytes, Promise, LentMemory, LaneRuns}
 use Rattle.lane_library.proofs.Promise.{size-fits}
-use Rattle.lane_program.specs.Program.{programRecord, Lent, WritesRecord}
+use Rattle.lane_program.specs.Program.{programRecord, ProgramLends, WritesRecord}
 
 fits-by : (b : Bool) (input : List ℕ) (rows entries : ℕ) → length (encode (inputRecord b input rows entries)) ≤ recordBytes entries
 fits-by true input rows entries = size-fits (imageIn input) (symbolsIn input) rows entries
@@ -42,33 +41,33 @@ promised : (image : List ℕ) (symbols : Rv32SymbolLayout) (w v : WriteAnswer) (
     → Promise image symbols w output → Promise image symbols v output
 promised image symbols w v output e p n q = p n (e ∙ q)
 
-module _ (input rows trace output : List ℕ) (w : WriteAnswer) (rows′ trace′ output′ : List ℕ) (n : ℕ) (lent : Lent rows trace output)
-    (h : LaneRuns input rows trace output w rows′ trace′ output′) (c : n ≡ count (writeSaid w)) where
+module _ (input : List ℕ) (before after : LentMemory) (w : WriteAnswer) (n : ℕ) (lent : ProgramLends (before .rows) (before .trace) (before .output))
+    (h : LaneRuns input before w after) (c : n ≡ count (writeSaid w)) where
   abbrev x : Record
   x = programRecord input
 
-  same : inputRecord (taken input) input (rowCount rows) (entryCount trace) ≡ x
+  same : inputRecord (taken input) input (rowCount (before .rows)) (entryCount (before .trace)) ≡ x
   same =
-      ap (λ (k : ℕ). inputRecord (taken input) input (k / rowBytes) (entryCount trace)) (lent .rows-are)
+      ap (λ (k : ℕ). inputRecord (taken input) input (k / rowBytes) (entryCount (before .trace))) (lent .rows-are)
       ∙ ap (λ (k : ℕ). inputRecord (taken input) input programRows (k / entryBytes)) (lent .entries-are)
 
-  written : Answers.Writes (some x) output w output′
-  written = subst (λ (y : Record). Answers.Writes (some y) output w output′) same (h .gives .writes)
+  written : Answers.Writes (some x) (before .output) w (after .output)
+  written = subst (λ (y : Record). Answers.Writes (some y) (before .output) w (after .output)) same (h .gives .writes)
 
-  room : length (encode x) ≤ length output
+  room : length (encode x) ≤ length (before .output)
   room = omega (arith, fits-by (taken input) input programRows programEntries, lent .room)
 
   told : writeSaid w ≡ wrote (length (encode x))
-  told = said x output w output′ written room
+  told = said x (before .output) w (after .output) written room
 
   sized : n ≡ length (encode x)
   sized = c ∙ ap count told
 
-  pub writes : WritesRecord input output n output′
+  pub writes : WritesRecord input (before .output) n (after .output)
   writes = record {
     size = sized;
     fits = omega (arith, sized, fits-by (taken input) input programRows programEntries);
-    bytes = left x output w output′ written room;
+    bytes = left x (before .output) w (after .output) written room;
     promise =
-        promised (imageIn input) (symbolsIn input) w (Written n) output′ (told ∙ ap (λ (k : ℕ). wrote k) (sym sized)) (h .promise);
+        promised (imageIn input) (symbolsIn input) w (Written n) (after .output) (told ∙ ap (λ (k : ℕ). wrote k) (sym sized)) (h .promise);
   }

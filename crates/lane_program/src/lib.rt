@@ -4,13 +4,9 @@ use lane_record::EVENT_BYTES;
 use lane_record::HEADING_BYTES;
 use lane_record::MAX_EVENTS;
 use lane_record::STEP_BYTES;
-use lane_record::WriteAnswer;
 use riscv32imc_predicate::ENTRY_BYTES;
-ghost use mathlib.Core.Path.{_≡_};
 ghost use Prim.Native.Nat.{_≤_};
-ghost use Rattle.lane_record.specs.Answers.{writeSaid};
-ghost use Rattle.lane_library.specs.Boundary.{count};
-ghost use Rattle.lane_program.specs.Program.{Lent, WritesRecord, Outputs};
+ghost use Rattle.lane_program.specs.Program.{ProgramLends, WritesRecord, Outputs};
 
 // What the program lends.
 const ROWS: usize = 200;
@@ -33,23 +29,13 @@ pub struct ProgramOutput {
     pub count: usize,
 }
 
-fn count_of(answer: WriteAnswer) -> usize
-    ensures { λ r. ⌜ r ≡ count (writeSaid answer) ⌝ }
-{
-    match answer {
-        WriteAnswer::Written(n) => n,
-        WriteAnswer::RulesBroken => 0,
-        WriteAnswer::OutputTooShort => 0,
-    }
-}
-
 // The output is long enough for every record, so there is always one.
 fn run(input: &[u8], rows: &mut [u8], trace: &mut [u8], output: &mut [u8]) -> usize
-    requires { ⌜ Lent (now rows) (now trace) (now output) ⌝ }
+    requires { ⌜ ProgramLends (now rows) (now trace) (now output) ⌝ }
     ensures { λ r. ⌜ WritesRecord (now (input .entry)) (now (output .entry)) r (now (output .exit)) ⌝ }
 {
     let answer = lane_library::run_input(input, rows, trace, output);
-    count_of(answer)
+    lane_library::count_of(answer)
 }
 
 pub fn run_program(input: &[u8]) -> ProgramOutput

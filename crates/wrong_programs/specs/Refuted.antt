@@ -1,4 +1,4 @@
--- Condition 3 of document 01 as a table: each wrong program, and the inputs at which it breaks the contract; for the run and for the library.
+-- The table of wrong programs (document 01, Conditions of acceptance), each with the inputs at which it breaks the contract; for the run and for the library.
 use mathlib.Core.Path.{_≡_}
 use mathlib.Core.Bool.{false}
 use mathlib.Core.List.{List, [], _∷_}
@@ -17,7 +17,7 @@ use Rattle.lane_record.specs.Decode.{decode}
 use Rattle.lane_record.specs.Answers.{Said, done, wrote, refuses, writeSaid}
 use Rattle.riscv32imc_predicate.specs.declared.PredicateRun.{PredicateRun}
 use Rattle.riscv32imc_predicate.specs.Outcome.{resultIn, Ran}
-use Rattle.lane_library.specs.Outcome.{LaneRuns}
+use Rattle.lane_library.specs.Outcome.{lent, LaneRuns}
 use Rattle.wrong_programs.specs.Inputs.{Input, imageOf, symbolsOf, runAt, returnsInput, returns1, returns0, jumpFirst, nopFirst, storesAtStop, storesBelow}
 use Rattle.wrong_programs.specs.Behaviours.{Observed, noSpaceAtOnce, AcceptsAt, CopiesInput6, InventsLaterTrace, InventsWrittenBytes, RefusesWithSpaceLeft, NeverChanges, RefusesEachImage, LeavesEmpty}
 
@@ -36,12 +36,12 @@ module _ (Output : Type 0) (seen : Output → Observed) (Meets : Input → Outpu
   abbrev pub Breaks : ((Input → Observed) → Type 0) → List Input → Type 0
   Breaks Behaves inputs = (program : Input → Output) → Behaves (λ x. seen (program x)) → FailsAt program inputs
 
-  -- 4 at any one input: where what is lent suffices for the run, never 13 or 14 before any step
+  -- 4 at any one input: where what is lent suffices for the run, it never finds no space at once
   abbrev pub NeverAtOnce : Type 0
   NeverAtOnce = (x : Input) → Suffices x → (o : Output) → Meets x o → noSpaceAtOnce ((seen o) .recorded) ≡ false
 
   pub record Refuted : Type 0 where
-    -- 1. 82 80, which returns the input
+    -- 1. the image that returns its input
     pub input-6-copied : Breaks CopiesInput6 (returnsInput ∷ [])
     -- 2. two images that part after their first instruction
     pub trace-invented : Breaks InventsLaterTrace (jumpFirst ∷ nopFirst ∷ [])
@@ -81,7 +81,7 @@ RunMeets x o = Ran (imageOf x) (symbolsOf x) (x .rows) (x .trace) (o .run) (o .r
 abbrev pub RunRefuted : Type 0
 RunRefuted = Refuted RunOutput seenOfRun RunMeets
 
--- ---- the run's promise alone (demand 3): the three programs that condition 3 marks with it break it where they accept
+-- ---- the run's promise alone: the three programs that are to break demand 3 do so where they accept
 
 abbrev pub RunPromises : Input → RunOutput → Type 0
 RunPromises x o =
@@ -117,7 +117,7 @@ abbrev pub seenOfLibrary : LibraryOutput → Observed
 seenOfLibrary o = record { recorded = written (writeSaid (o .answer)) (o .output); trace = o .trace }
 
 abbrev pub LibraryMeets : Input → LibraryOutput → Type 0
-LibraryMeets x o = LaneRuns (x .bytes) (x .rows) (x .trace) (x .output) (o .answer) (o .rows) (o .trace) (o .output)
+LibraryMeets x o = LaneRuns (x .bytes) (lent (x .rows) (x .trace) (x .output)) (o .answer) (lent (o .rows) (o .trace) (o .output))
 
 abbrev pub LibraryRefuted : Type 0
 LibraryRefuted = Refuted LibraryOutput seenOfLibrary LibraryMeets

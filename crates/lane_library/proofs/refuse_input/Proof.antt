@@ -17,4 +17,4 @@ refuse-input-spec =
     let w = c .before .before in
     let o = w .before .before .before in
     let z = o .before .before .before in
-    gives-refusal _ _ _ _ _ _ _ (z .clear .ensures) (o .refused-outcome .ensures) (w .write-record .ensures)))
+    gives-refusal _ (z .clear .ensures) (o .refused-outcome .ensures) (w .write-record .ensures)))

@@ -1,5 +1,6 @@
 use denote.Ref.{now}
 use borrow.Author.Needs.{needs}
+use Rattle.lane_library.specs.Outcome.{lent}
 use Rattle.lane_library.proofs.Laws.{image-runs}
 use Rattle.lane_library.proofs.run_image.Statement.{statement}
 use Rattle.lane_library.proofs.run_image.Tie as tie
@@ -19,4 +20,15 @@ run-image-spec =
     let o = w .before .before .before in
     let e = o .before .before .before .before .before in
     let a = e .before .before .before .before .before .before .before .args in
-    image-runs (now (a .image)) (a .symbols) (now (a .rows)) (now (a .trace)) _ _ _ (e .execute-invalid-channel-predicate .ensures) _ _ _ _ (o .outcome-of .ensures) (w .write-record .ensures)))
+    image-runs (record {
+      image = now (a .image);
+      symbols = a .symbols;
+      before = lent (now (a .rows)) (now (a .trace)) (now (a .output));
+      after = _;
+      run = _;
+      ran = e .execute-invalid-channel-predicate .ensures;
+      outcome = _;
+      outcome-is = o .outcome-of .ensures;
+      answer = _;
+      writes = w .write-record .ensures;
+    })))

@@ -4,7 +4,7 @@ use Prim.Native.Nat.{_≤_}
 use denote.Ref.{now}
 use lib.ListN.{length}
 use borrow.Author.Needs.{needs}
-use Rattle.lane_library.specs.Inputs.{taken}
+use Rattle.lane_library.specs.Inputs.{symbolBytes, taken}
 use Rattle.lane_library.proofs.Laws.{taken-least, image-part, runs-taken, runs-refused}
 use Rattle.lane_library.proofs.run_input.Statement.{statement}
 use Rattle.lane_library.proofs.run_input.Tie as tie
@@ -13,7 +13,7 @@ use Rattle.lane_library.proofs.run_input.Tie as tie
 is-taken : (c : tie.After-symbols-in) → taken (now (c .before .before .before .before .before .before .before .args .input)) ≡ true
 is-taken c = sym (c .before .before .takes .ensures) ∙ c .before .if1 .taken
 
-least : (c : tie.After-symbols-in) → 12 ≤ length (now (c .before .before .before .before .before .before .before .args .input))
+least : (c : tie.After-symbols-in) → symbolBytes ≤ length (now (c .before .before .before .before .before .before .before .args .input))
 least c = taken-least (now (c .before .before .before .before .before .before .before .args .input)) (is-taken c)
 
 pub run-input-spec : {M : Type 1} → statement M
@@ -33,7 +33,7 @@ run-input-spec =
     let r = c .before .before .before .before .before .before in
     let s = r .before .before .before .before .before in
     let a = s .before .before .before .before .before .before .before .args in
-    runs-taken (now (a .input)) (now (a .rows)) (now (a .trace)) (now (a .output)) _ _ _ _ (sym (is-taken s)) _ _ (image-part (now (a .input))) (s .symbols-in .ensures) (r .run-image .ensures))
+    runs-taken (now (a .input)) _ _ _ (sym (is-taken s)) (image-part (now (a .input))) (s .symbols-in .ensures) (r .run-image .ensures))
     (λ c κs. search needs)
     (λ c. search needs)
     (λ c. search needs)
@@ -41,4 +41,4 @@ run-input-spec =
     let r = c .before .before .before .before in
     let t = r .before .before .before in
     let a = t .before .before .before .before .before .before .args in
-    runs-refused (now (a .input)) (now (a .rows)) (now (a .trace)) (now (a .output)) _ _ _ _ (sym (t .if1 .left) ∙ t .before .takes .ensures) refl (r .refuse-input .ensures)))
+    runs-refused (now (a .input)) _ _ _ (sym (t .if1 .left) ∙ t .before .takes .ensures) refl (r .refuse-input .ensures)))

@@ -1,5 +1,6 @@
 use denote.Ref.{now}
 use borrow.Author.Needs.{needs}
+use Rattle.lane_library.specs.Outcome.{lent}
 use Rattle.lane_program.proofs.Laws.{writes}
 use Rattle.lane_program.proofs.run.Statement.{statement}
 use Rattle.lane_program.proofs.run.Tie as tie
@@ -17,4 +18,4 @@ run-spec =
     let r = c .before .before .before .before .before .before .before in
     let s = r .before .before .before .before .before .before .before .before in
     let a = s .args in
-    writes (now (a .input)) (now (a .rows)) (now (a .trace)) (now (a .output)) (r .run-input .result) _ _ _ _ (s .pre) (r .run-input .ensures) (c .count-of .ensures)))
+    writes (now (a .input)) (lent (now (a .rows)) (now (a .trace)) (now (a .output))) _ (r .run-input .result) _ (s .pre) (r .run-input .ensures) (c .count-of .ensures)))

@@ -1,0 +1,11 @@
+use borrow.Author.Tests.{eq-eqb, ne-eqb}
+use borrow.Author.Needs.{needs}
+use Rattle.lane_exports.proofs.from_words.is_kind.Statement.{statement}
+use Rattle.lane_exports.proofs.from_words.is_kind.Tie as tie
+
+pub is-kind-spec : {M : Type 1} → statement M
+is-kind-spec =
+    tie.close
+    (tie.spec
+    (λ c. rw (eq-eqb _ _ (c .if1 .taken)))
+    (λ c. rw (ne-eqb _ _ (c .if1 .left))))

@@ -1,0 +1,2 @@
+-- What stands at the C boundary.
+pub mod Boundary

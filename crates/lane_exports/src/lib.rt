@@ -1,0 +1,113 @@
+// The library for programs in other languages: numbers, byte slices and words only. include/lane.h declares these functions.
+mod from_words;
+mod words;
+
+use from_words::outcome_from;
+use lane_record::ReadAnswer;
+use lane_record::WriteAnswer;
+use predicate_semantics::Rv32SymbolLayout;
+use words::OUTCOME_WORDS;
+use words::words_of;
+ghost use mathlib.Core.Path.{_≡_};
+ghost use Rattle.lane_record.specs.Decode.{decode};
+ghost use Rattle.lane_record.specs.Answers.{readSaid, writeSaid, given, Writes};
+ghost use Rattle.lane_library.specs.Outcome.{lent, LaneRuns, ImageRuns};
+ghost use Rattle.lane_exports.specs.Boundary.{code, outcomeFrom, Coded, ReadsWords, WritesWords};
+
+fn code_of(answer: WriteAnswer) -> u32
+    ensures { λ r. ⌜ r ≡ code (writeSaid answer) ⌝ }
+{
+    match answer {
+        WriteAnswer::Written(_) => 0,
+        WriteAnswer::RulesBroken => 15,
+        WriteAnswer::OutputTooShort => 16,
+    }
+}
+
+#[no_mangle]
+pub extern "C" fn lane_run(
+    input: &[u8],
+    rows: &mut [u8],
+    trace: &mut [u8],
+    output: &mut [u8],
+    written: &mut u64,
+) -> u32
+    ensures { λ r. ⌜ Coded (λ a. LaneRuns (now (input .entry)) (lent (now (rows .entry)) (now (trace .entry)) (now (output .entry))) a (lent (now (rows .exit)) (now (trace .exit)) (now (output .exit)))) r (now (written .exit)) ⌝ }
+{
+    let answer = lane_library::run_input(input, rows, trace, output);
+    *written = lane_library::count_of(answer) as u64;
+    code_of(answer)
+}
+
+#[no_mangle]
+pub extern "C" fn lane_run_image(
+    image: &[u8],
+    entry: u32,
+    event_count: u32,
+    events: u32,
+    rows: &mut [u8],
+    trace: &mut [u8],
+    output: &mut [u8],
+    written: &mut u64,
+) -> u32
+    ensures { λ r. ⌜ Coded (λ a. ImageRuns (now (image .entry)) (record { entry = entry; «event_count» = «event_count»; events = events }) (lent (now (rows .entry)) (now (trace .entry)) (now (output .entry))) a (lent (now (rows .exit)) (now (trace .exit)) (now (output .exit)))) r (now (written .exit)) ⌝ }
+{
+    let symbols = Rv32SymbolLayout {
+        entry: entry,
+        event_count: event_count,
+        events: events,
+    };
+    let answer = lane_library::run_image(image, symbols, rows, trace, output);
+    *written = lane_library::count_of(answer) as u64;
+    code_of(answer)
+}
+
+fn reading_code(answer: ReadAnswer) -> u32
+    ensures { λ r. ⌜ r ≡ code (readSaid answer) ⌝ }
+{
+    match answer {
+        ReadAnswer::Read => 0,
+        ReadAnswer::RulesBroken => 15,
+        ReadAnswer::TraceTooShort => 14,
+    }
+}
+
+#[no_mangle]
+pub extern "C" fn lane_read_record(
+    bytes: &[u8],
+    trace: &mut [u8],
+    outcome: &mut [u32; OUTCOME_WORDS],
+) -> u32
+    ensures { λ r. ⌜ ReadsWords (decode (now (bytes .entry))) (now (trace .entry)) (now (outcome .entry)) r (now (trace .exit)) (now (outcome .exit)) ⌝ }
+{
+    let reading = lane_record::read_record(bytes, trace);
+    let answer = reading.answer;
+    let read = reading.outcome;
+    let code = reading_code(answer);
+    if code != 0 {
+        return code;
+    }
+    *outcome = words_of(read);
+    code
+}
+
+fn write_words(words: &[u32; OUTCOME_WORDS], trace: &[u8], output: &mut [u8]) -> WriteAnswer
+    ensures { λ r. ⌜ Writes (given (outcomeFrom (now (words .entry))) (now (trace .entry))) (now (output .entry)) r (now (output .exit)) ⌝ }
+{
+    let outcome = outcome_from(words);
+    lane_record::write_record(outcome, trace, output)
+}
+
+#[no_mangle]
+pub extern "C" fn lane_write_record(
+    outcome: &[u32; OUTCOME_WORDS],
+    trace: &[u8],
+    output: &mut [u8],
+    written: &mut u64,
+) -> u32
+    ensures { λ r. ⌜ WritesWords (now (outcome .entry)) (now (trace .entry)) (now (output .entry)) r (now (output .exit)) (now (written .exit)) ⌝ }
+{
+    let answer = write_words(outcome, trace, output);
+    *written = lane_library::count_of(answer) as u64;
+    code_of(answer)
+}
