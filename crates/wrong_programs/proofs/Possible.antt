@@ -1,4 +1,4 @@
--- A program for each behaviour: one that accepts everything, one that refuses everything with 13.
+-- A program for each behaviour: one that accepts everything, one that always finds too few rows.
 use mathlib.Core.Path.{refl}
 use mathlib.Core.Logic.{inl}
 use mathlib.Core.List.{[]}

@@ -3,7 +3,7 @@ use mathlib.Core.Path.{_≡_, refl, sym, ap, _∙_}
 use mathlib.Core.Bool.{true, true≢false}
 use mathlib.Core.List.{List, [], _∷_}
 use mathlib.Core.Option.{Option, none, some}
-use Prim.Native.Nat.{ℕ}
+use Prim.Native.Nat.{ℕ, _+_}
 use native.Mathlib.Omega.{arith}
 use Rattle.lane_word.specs.Word.{firstInput}
 use Rattle.predicate_semantics.specs.declared.PredicateControlStep.{PredicateControlStep}
@@ -24,9 +24,9 @@ scalar : Unit {0}
 unfolding Scalar._>>=_ Scalar.require Scalar.put Scalar.read Scalar.write Scalar.inside Scalar.access Scalar.reg Scalar.operand Scalar.fetchWord Scalar.fetch Scalar.execute Scalar.look Scalar.step Scalar.events Scalar.finish Scalar.run Scalar.start Scalar.scalarRun Standing.standingScalarRun
 scalar = tt
 
--- the scalar run of input 6
-abbrev scalar6 : Input → Option Result
-scalar6 x = standingScalarRun (imageOf x) (symbolsOf x) firstInput (λ _. 0)
+-- the scalar run of the first input
+abbrev scalarFirst : Input → Option Result
+scalarFirst x = standingScalarRun (imageOf x) (symbolsOf x) firstInput (λ _. 0)
 
 -- what is accepted is a result
 result-of : (e : PredicateTransducerExecution) (n : ℕ) (t : Tested Result) → isAccepted (some (recordOf e n t)) ≡ true → (r : Result) × (t ≡ passed r)
@@ -53,12 +53,12 @@ module _ (o : RunOutput) (r : Result) (h : resultIn (o .run) (o .trace) ≡ pass
   recorded-trace = ap (λ (t : Tested Result). steps (some (recordOf (o .run .execution) (o .run .steps) t))) h
 
   module _ (x : Input) (m : RunPromises x o) where
-    promised-6 : scalar6 x ≡ some r
-    promised-6 = m r h firstInput (omega arith) (omega arith) (λ _. 0)
+    promised-first : scalarFirst x ≡ some r
+    promised-first = m r h firstInput (omega arith) (omega arith) (λ _. 0)
 
-    -- the steps in its record are input 6's
-    steps-6 : steps ((seenOfRun o) .recorded) ≡ traced (scalar6 x)
-    steps-6 = recorded-trace ∙ sym (ap traced promised-6)
+    -- the steps in its record are the first input's
+    steps-first : steps ((seenOfRun o) .recorded) ≡ traced (scalarFirst x)
+    steps-first = recorded-trace ∙ sym (ap traced promised-first)
 
 pub promise-refuted : PromiseRefuted
 unfolding runs scalar
@@ -66,12 +66,12 @@ promise-refuted = record {
   promised = λ x o h. h .guarantee;
   input-6-copied = λ p b m.
       let (r, e) = accepted-result (p returnsInput) (b returnsInput _ refl) in
-      different 6 7 (ap returned (promised-6 (p returnsInput) r e returnsInput m ∙ sym (m r e 7 (omega arith) (omega arith) (λ _. 0)))) (omega arith);
+      different firstInput (firstInput + 1) (ap returned (promised-first (p returnsInput) r e returnsInput m ∙ sym (m r e (firstInput + 1) (omega arith) (omega arith) (λ _. 0)))) (omega arith);
   trace-invented = λ p (b, u, v) m n.
       let (r, e) = accepted-result (p jumpFirst) u in
       let (q, f) = accepted-result (p nopFirst) v in
-      let same : Agree (traced (scalar6 jumpFirst)) (traced (scalar6 nopFirst)) =
-      rw (steps-6 (p jumpFirst) r e jumpFirst m, steps-6 (p nopFirst) q f nopFirst n) at
+      let same : Agree (traced (scalarFirst jumpFirst)) (traced (scalarFirst nopFirst)) =
+      rw (steps-first (p jumpFirst) r e jumpFirst m, steps-first (p nopFirst) q f nopFirst n) at
       (b jumpFirst nopFirst (refl, refl, refl, refl, refl) refl) in
       different 0x13 0x8067 (ap (λ (s : PredicateControlStep). s .«instruction_word») (sym (same .1 .0))) (omega arith);
   unchanging = λ p (b, v) m n.
@@ -79,6 +79,6 @@ promise-refuted = record {
       let (q, f) = accepted-result (p returns1) v in
       different 0x00000513 0x00100513
       (ap firstWord
-      (sym (steps-6 (p returns0) r e returns0 m) ∙ ap steps (b returns0 returns1) ∙ steps-6 (p returns1) q f returns1 n))
+      (sym (steps-first (p returns0) r e returns0 m) ∙ ap steps (b returns0 returns1) ∙ steps-first (p returns1) q f returns1 n))
       (omega arith);
 }

@@ -1,4 +1,4 @@
--- Each row of condition 3's table, by the runs of its inputs.
+-- Each row of the table of wrong programs, by the runs of its inputs.
 use mathlib.Core.Path.{_≡_, refl, sym, ap, _∙_}
 use mathlib.Core.Bool.{true≢false}
 use mathlib.Core.Logic.{⊎-elim}

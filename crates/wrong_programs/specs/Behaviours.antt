@@ -1,4 +1,4 @@
--- What condition 3's wrong programs do, over what is seen of a program at each input.
+-- What the wrong programs do (document 01, Conditions of acceptance), over what is seen of a program at each input.
 use mathlib.Core.Path.{_≡_}
 use mathlib.Core.Bool.{Bool, true, false, _&&_, _||_}
 use mathlib.Core.Logic.{_⊎_}
@@ -26,6 +26,7 @@ pub record Observed : Type 0 where
   pub recorded : Option Record
   pub trace : List ℕ
 
+-- there is an accepted record
 abbrev pub isAccepted : Option Record → Bool
 isAccepted none = false
 isAccepted (some (accepted e es ss)) = true
@@ -53,13 +54,13 @@ Agree (s ∷ ss) (t ∷ ts) = (s ≡ t) × Agree ss ts
 abbrev pub otherNumbers : PredicateTransducerExecution → List ℕ
 otherNumbers e = e .«return_value» ∷ e .«symbolic_transitions» ∷ e .«event_count» ∷ []
 
--- 13 or 14 with no step completed
+-- Who causes a refusal: too few rows or entries, said before a step is completed
 abbrev pub noSpaceAtOnce : Option Record → Bool
 noSpaceAtOnce none = false
 noSpaceAtOnce (some (accepted e es ss)) = false
 noSpaceAtOnce (some (refused f)) = (eqb (f .number) 13 || eqb (f .number) 14) && eqb (f .steps) 0
 
--- the lane run of 250 lanes that all hold input 6
+-- the lane run whose lanes all hold the first input
 abbrev pub copied : Input → Ended
 copied x =
     laneRun (standing (imageOf x) (symbolsOf x))
@@ -76,47 +77,49 @@ Alike x y =
     × (x .rows ≡ y .rows) × (x .trace ≡ y .trace) × (x .output ≡ y .output)
 
 module _ (program : Input → Observed) where
+  -- it accepts there
   abbrev pub AcceptsAt : Input → Type 0
   AcceptsAt x = isAccepted ((program x) .recorded) ≡ true
 
-  -- 1. "a run of input 6 copied to 250 entries": it accepts what 250 lanes of input 6 pass
+  -- 1. the first input's run serves for all of them: it accepts what lanes that all hold that input pass
   abbrev pub CopiesInput6 : Type 0
   CopiesInput6 = (x : Input) (r : Result) → (copied x) .answer ≡ passed r → AcceptsAt x
 
-  -- 2. "executes the first instruction and invents the later trace": nothing of the image after that instruction tells in the steps
+  -- 2. the steps after the first are made up: nothing of the image past its first instruction tells in them
   abbrev pub InventsLaterTrace : Type 0
   InventsLaterTrace =
       (x y : Input) → Alike x y → firstInstruction x ≡ firstInstruction y
       → Agree (steps ((program x) .recorded)) (steps ((program y) .recorded))
 
-  -- 3. "invented written-byte counts": runs that agree in the other numbers agree in this one, wherever they store
+  -- 3. the number of written bytes is made up: runs that agree in the other numbers agree in this one, wherever they store
   abbrev pub InventsWrittenBytes : Type 0
   InventsWrittenBytes =
       (x y : Input) → Alike x y
       → otherNumbers (numbers ((program x) .recorded)) ≡ otherNumbers (numbers ((program y) .recorded))
       → (numbers ((program x) .recorded)) .«sparse_memory_bytes» ≡ (numbers ((program y) .recorded)) .«sparse_memory_bytes»
 
-  -- 4. "13 or 14 before any step with space left": the stop word's rows are lent, and an entry
+  -- 4. it finds no space at once, though the stop word's rows are lent, and an entry
   abbrev pub RefusesWithSpaceLeft : Type 0
   RefusesWithSpaceLeft =
       (x : Input) → 4 ≤ rowCount (x .rows) → 1 ≤ entryCount (x .trace) → noSpaceAtOnce ((program x) .recorded) ≡ true
 
-  -- 5. "an unchanging record"
+  -- 5. its record is the same for every input
   abbrev pub NeverChanges : Type 0
   NeverChanges = (x y : Input) → (program x) .recorded ≡ (program y) .recorded
 
-  -- 6. "one that refuses each image"
+  -- 6. it never accepts
   abbrev pub RefusesEachImage : Type 0
   RefusesEachImage = (x : Input) → isAccepted ((program x) .recorded) ≡ false
 
-  -- 7. "one that leaves trace and record empty": either is enough
+  -- 7. the lent trace stays as it was, or the record has no numbers: either is enough
   abbrev pub LeavesEmpty : Type 0
   LeavesEmpty = (x : Input) → ((program x) .trace ≡ x .trace) ⊎ (numbers ((program x) .recorded) ≡ noExecution)
 
--- none of them is empty: something can be seen so
+-- some program behaves so
 abbrev pub Possible : ((Input → Observed) → Type 0) → Type 0
 Possible Behaves = (program : Input → Observed) × Behaves program
 
+-- none of the seven behaviours is empty
 pub record AllPossible : Type 0 where
   pub input-6-copied : Possible CopiesInput6
   pub trace-invented : Possible InventsLaterTrace

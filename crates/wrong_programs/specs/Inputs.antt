@@ -12,7 +12,7 @@ use Rattle.lane_memory.specs.Rows.{rowBytes}
 use Rattle.riscv32imc_predicate.specs.Outcome.{runOver}
 use Rattle.lane_library.specs.Inputs.{symbolsIn, imageIn}
 
--- "entry, event count address, events address (4 bytes each), then the image"
+-- Record: the input of the program lane-run, the three symbols and the image after them
 abbrev pub inputBytes : Rv32SymbolLayout → List ℕ → List ℕ
 inputBytes s image = bytes 4 (s .entry) ++ bytes 4 (s .«event_count») ++ bytes 4 (s .events) ++ image
 
@@ -23,9 +23,11 @@ pub record Input : Type 0 where
   pub trace : List ℕ
   pub output : List ℕ
 
+-- its symbols
 abbrev pub symbolsOf : Input → Rv32SymbolLayout
 symbolsOf x = symbolsIn (x .bytes)
 
+-- its image
 abbrev pub imageOf : Input → List ℕ
 imageOf x = imageIn (x .bytes)
 
@@ -43,11 +45,11 @@ lending image rows entries =
       output = replicate 64 0;
     }
 
--- 82 80 (C.JR x1), which returns the input: refused with 7, role 6, after a step
+-- Threads on both sides of an edge: C.JR x1 alone, which returns the input, so that the return value is not uniform
 abbrev pub returnsInput : Input
 returnsInput = lending (half 0x8082) 4 1
 
--- 05 45 82 80 (C.LI x10, 1; C.JR x1), document 01's example
+-- Record: the worked example, C.LI x10, 1 and C.JR x1
 abbrev pub returns1 : Input
 returns1 = lending return1 4 2
 

@@ -1,4 +1,4 @@
--- Condition 3 of document 01: seven wrong programs, and that none of them meets the contracts.
+-- Seven wrong programs (document 01, Conditions of acceptance), and that none of them meets the contracts.
 pub mod Inputs
 pub mod Behaviours
 pub mod Refuted
