@@ -1,4 +1,4 @@
--- The corner cases of the arithmetic, computed from its definitions (document 01, "Lane word"). Assumes nothing.
+-- The corner cases of the arithmetic, computed from its definitions (document 01, Lane word). Assumes nothing.
 use mathlib.Core.Path.{_≡_, refl}
 use Prim.Native.Nat.{ℕ}
 use Rattle.riscv32imc.specs.Arithmetic.{add, sub, sra, mul, div, divu, rem, remu}

@@ -1,4 +1,4 @@
--- What each operation computes of 32-bit values (the manual's RV32I and M chapters).
+-- What each operation computes of 32-bit values (the manual's RV32I and M chapters; document 01, Lane word).
 use mathlib.Core.Bool.{Bool, cond, not}
 use Prim.Native.Nat.{ℕ, _+_, _-_, _*_, _/_, _%_, _^_}
 use lib.Bits.{bitAnd, bitOr, bitXor}
@@ -8,10 +8,11 @@ use lib.Signed.{quotZ, remZ, shrZ, ltZ}
 use mir.Syntax.{w32}
 use mir.Val.{toZ, ofZ}
 
--- a word read as a two's complement number, and the word of such a number
+-- a word read as a two's complement number
 abbrev pub signed : ℕ → ℤ
 signed x = toZ w32 x
 
+-- the word of such a number
 abbrev pub unsigned : ℤ → ℕ
 unsigned z = ofZ w32 z
 
@@ -27,13 +28,15 @@ add a b = (a + b) % 2 ^ 32
 abbrev pub sub : ℕ → ℕ → ℕ
 sub a b = (a + (2 ^ 32 - b)) % 2 ^ 32
 
--- SLL, SRL, SRA and their immediate forms: by the low five bits of the second operand
+-- SLL, SLLI: by the low five bits of the second operand
 abbrev pub sll : ℕ → ℕ → ℕ
 sll a b = a * 2 ^ (b % 32) % 2 ^ 32
 
+-- SRL, SRLI: likewise
 abbrev pub srl : ℕ → ℕ → ℕ
 srl a b = a / 2 ^ (b % 32)
 
+-- SRA, SRAI: likewise, of the signed number
 abbrev pub sra : ℕ → ℕ → ℕ
 sra a b = unsigned (shrZ (signed a) (2 ^ (b % 32)))
 
@@ -45,13 +48,15 @@ slt a b = flag (ltZ (signed a) (signed b))
 abbrev pub sltu : ℕ → ℕ → ℕ
 sltu a b = flag (ltb a b)
 
--- AND, OR, XOR and their immediate forms
+-- AND, ANDI
 abbrev pub and : ℕ → ℕ → ℕ
 and a b = bitAnd a b
 
+-- OR, ORI
 abbrev pub or : ℕ → ℕ → ℕ
 or a b = bitOr a b
 
+-- XOR, XORI
 abbrev pub xor : ℕ → ℕ → ℕ
 xor a b = bitXor a b
 
@@ -59,7 +64,7 @@ xor a b = bitXor a b
 abbrev pub mul : ℕ → ℕ → ℕ
 mul a b = a * b % 2 ^ 32
 
--- DIV: rounds towards zero; by 0, all bits set
+-- DIV: the quotient of signed numbers, cut to its whole part; by 0, all bits set
 abbrev pub div : ℕ → ℕ → ℕ
 div a b = cond (eqb b 0) (2 ^ 32 - 1) (unsigned (quotZ (signed a) (signed b)))
 
@@ -67,7 +72,7 @@ div a b = cond (eqb b 0) (2 ^ 32 - 1) (unsigned (quotZ (signed a) (signed b)))
 abbrev pub divu : ℕ → ℕ → ℕ
 divu a b = cond (eqb b 0) (2 ^ 32 - 1) (a / b)
 
--- REM: takes the dividend's sign; by 0, the dividend
+-- REM: what that quotient leaves; by 0, the dividend
 abbrev pub rem : ℕ → ℕ → ℕ
 rem a b = cond (eqb b 0) a (unsigned (remZ (signed a) (signed b)))
 
@@ -75,19 +80,22 @@ rem a b = cond (eqb b 0) a (unsigned (remZ (signed a) (signed b)))
 abbrev pub remu : ℕ → ℕ → ℕ
 remu a b = cond (eqb b 0) a (a % b)
 
--- BEQ, BNE, BGE, BGEU: the branch is taken where the value is 1
+-- BEQ: the branch is taken where the value is 1
 abbrev pub beq : ℕ → ℕ → ℕ
 beq a b = flag (eqb a b)
 
+-- BNE: likewise
 abbrev pub bne : ℕ → ℕ → ℕ
 bne a b = flag (not (eqb a b))
 
+-- BGE: likewise, of signed numbers
 abbrev pub bge : ℕ → ℕ → ℕ
 bge a b = flag (not (ltZ (signed a) (signed b)))
 
+-- BGEU: likewise, of unsigned ones
 abbrev pub bgeu : ℕ → ℕ → ℕ
 bgeu a b = flag (not (ltb a b))
 
--- JALR: the target is the sum with bit 0 cleared
+-- JALR: the even address at or below the sum
 abbrev pub target : ℕ → ℕ → ℕ
 target base offset = add base offset / 2 * 2

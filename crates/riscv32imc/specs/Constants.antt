@@ -1,18 +1,18 @@
--- Memory and its limits (document 01, "Written byte" and "Who causes a refusal").
+-- Memory and its limits (document 01, Written byte and Who causes a refusal).
 use Prim.Native.Nat.{ℕ, _+_, _-_}
 
--- where memory and the image begin
+-- Written byte: the first address of memory, and of the image
 abbrev pub imageBase : ℕ
 imageBase = 0x80000000
 
--- the largest image, in bytes
+-- Who causes a refusal: the bytes of the largest image
 abbrev pub maxImageBytes : ℕ
 maxImageBytes = 1048576
 
--- the size of memory, in bytes
+-- Written byte: the bytes of memory
 abbrev pub maxMemoryBytes : ℕ
 maxMemoryBytes = 2097152
 
--- the most steps of a run
+-- Who causes a refusal: the most steps of a run
 abbrev pub maxSteps : ℕ
 maxSteps = 1000000

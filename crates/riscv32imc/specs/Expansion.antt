@@ -1,4 +1,4 @@
--- What a halfword expands to: the rows of the manual's "RVC instruction listings" in their order, with document 01's refusals.
+-- What a halfword expands to: the manual's RVC instruction listings in their order, with the refusals of document 01, Halfword and word.
 use mathlib.Core.Bool.{cond}
 use Prim.Native.Nat.{ℕ, _+_, _*_, _%_, _^_}
 use lib.Dec.{eqb, ltb}
@@ -11,6 +11,7 @@ use Rattle.riscv32imc.specs.declared.compressed.Expanded.the-variants.{W
 abbrev pub quadrant : ℕ → ℕ
 quadrant h = h % 4
 
+-- the row within a quadrant
 abbrev pub funct3 : ℕ → ℕ
 funct3 h = slice h 15 13
 
@@ -18,16 +19,19 @@ funct3 h = slice h 15 13
 abbrev pub rd : ℕ → ℕ
 rd h = slice h 11 7
 
+-- the second source
 abbrev pub rs2 : ℕ → ℕ
 rs2 h = slice h 6 2
 
--- the three-bit register fields name x8 to x15: rs1' or rd'/rs1', and rd' or rs2'
+-- rs1' or rd'/rs1', a field of three bits that names x8 to x15
 abbrev pub rs1' : ℕ → ℕ
 rs1' h = slice h 9 7 + 8
 
+-- rd', such a field too
 abbrev pub rd' : ℕ → ℕ
 rd' h = slice h 4 2 + 8
 
+-- rs2', in the same place
 abbrev pub rs2' : ℕ → ℕ
 rs2' h = rd' h
 
@@ -84,7 +88,7 @@ cJump link h = Word (encodeJ link (signExtend (jOffset h) 12))
 abbrev pub cJal : ℕ → Expanded
 cJal h = cJump 1 h
 
--- C.LI: addi rd, x0, imm; document 01 refuses the hints, rd 0
+-- C.LI: addi rd, x0, imm; the hints, rd 0, are refused
 unfoldable pub cLi : ℕ → Expanded
 cLi h = cond (eqb (rd h) 0) Refused (Word (encodeI 0x13 0 (rd h) 0 (signExtend (addiImm h) 6)))
 
@@ -100,7 +104,7 @@ cAddi16sp h = cond (eqb (addi16spImm h) 0) Refused (Word (encodeI 0x13 0 2 2 (si
 abbrev pub luiImm : ℕ → ℕ
 luiImm h = place h 12 12 17 + place h 6 2 12
 
--- C.LUI: lui rd, nzimm; document 01 refuses the hints, rd 0, and rd 1; reserved with nzimm 0
+-- C.LUI: lui rd, nzimm; the hints, rd 0, are refused, and so is rd 1; reserved with nzimm 0
 unfoldable pub cLui : ℕ → Expanded
 cLui h =
     cond (ltb (rd h) 2) Refused
@@ -123,19 +127,23 @@ cSrai h = cShift 0x20 h
 abbrev pub cAndi : ℕ → Expanded
 cAndi h = Word (encodeI 0x13 7 (rs1' h) (rs1' h) (signExtend (addiImm h) 6))
 
--- C.SUB, C.XOR, C.OR, C.AND: sub, xor, or, and rd', rd', rs2'
+-- an operation rd', rd', rs2'
 abbrev pub cOperation : ℕ → ℕ → ℕ → Expanded
 cOperation funct7 baseFunct3 h = Word (encodeR funct7 baseFunct3 (rs1' h) (rs1' h) (rs2' h))
 
+-- C.SUB: sub
 abbrev pub cSub : ℕ → Expanded
 cSub h = cOperation 0x20 0 h
 
+-- C.XOR: xor
 abbrev pub cXor : ℕ → Expanded
 cXor h = cOperation 0 4 h
 
+-- C.OR: or
 abbrev pub cOr : ℕ → Expanded
 cOr h = cOperation 0 6 h
 
+-- C.AND: and
 abbrev pub cAnd : ℕ → Expanded
 cAnd h = cOperation 0 7 h
 
@@ -188,7 +196,7 @@ quadrant1 h =
     (cond (eqb (funct3 h) 6) (cBeqz h)
     (cBnez h)))))))
 
--- C.SLLI: slli rd, rd, nzuimm[5], nzuimm[4:0]; not for RV32 with nzuimm[5] 1; document 01 refuses the hints, rd 0
+-- C.SLLI: slli rd, rd, nzuimm[5], nzuimm[4:0]; not for RV32 with nzuimm[5] 1; the hints, rd 0, are refused
 unfoldable pub cSlli : ℕ → Expanded
 cSlli h =
     cond (eqb (slice h 12 12) 0)
@@ -207,7 +215,7 @@ cLwsp h = cond (eqb (rd h) 0) Refused (Word (encodeI 0x03 2 (rd h) 2 (lwspOffset
 abbrev pub cJr : ℕ → Expanded
 cJr h = cond (eqb (rd h) 0) Refused (Word (encodeI 0x67 0 0 (rd h) 0))
 
--- C.MV: add rd, x0, rs2; document 01 refuses the hints, rd 0
+-- C.MV: add rd, x0, rs2; the hints, rd 0, are refused
 abbrev pub cMv : ℕ → Expanded
 cMv h = cond (eqb (rd h) 0) Refused (Word (encodeR 0 0 (rd h) 0 (rs2 h)))
 
@@ -219,7 +227,7 @@ cEbreak = Word 0x00100073
 abbrev pub cJalr : ℕ → Expanded
 cJalr h = Word (encodeI 0x67 0 1 (rd h) 0)
 
--- C.ADD: add rd, rd, rs2; document 01 refuses the hints, rd 0
+-- C.ADD: add rd, rd, rs2; the hints, rd 0, are refused
 abbrev pub cAdd : ℕ → Expanded
 cAdd h = cond (eqb (rd h) 0) Refused (Word (encodeR 0 0 (rd h) (rd h) (rs2 h)))
 

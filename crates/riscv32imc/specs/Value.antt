@@ -5,6 +5,7 @@ use Rattle.riscv32imc.specs.declared.arithmetic.Binary.the-variants.{Add
 use Rattle.riscv32imc.specs.Arithmetic.{add, sub, sll, srl, sra, slt, sltu, and, or, xor, mul, div, divu, rem, remu, beq, bne, bge, bgeu, target}
 use Rattle.riscv32imc.specs.Bits.{signExtend, byteOf, join}
 
+-- what an operation gives of two values
 abbrev pub valueOf : Binary → ℕ → ℕ → ℕ
 valueOf Add = add
 valueOf Sub = sub

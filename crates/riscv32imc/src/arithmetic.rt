@@ -184,7 +184,7 @@ pub fn rv32_geu(a: u32, b: u32) -> u32
     flag(!(a < b))
 }
 
-// Where JALR goes: the sum with bit 0 cleared.
+// Where JALR goes: the even address at or below the sum.
 pub fn jump_target(base: u32, offset: u32) -> u32
     ensures { λ r. ⌜ r ≡ target base offset ⌝ }
 {
