@@ -16,8 +16,8 @@ TARGET = os.path.join(ROOT, 'target')
 STAMPS = os.path.join(TARGET, 'tools')
 # Seconds that a crate takes, as `rt ci` printed them on two idle x86-64 cores. Others take OTHER.
 SECONDS = {'little_endian': 12, 'riscv32imc': 32, 'riscv_decode': 28, 'lane_word': 17, 'predicate_semantics': 7, 'predicate_action': 24,
-           'lane_memory': 30, 'lane_record': 38, 'lane_access': 24, 'riscv32imc_predicate': 152, 'lane_library': 54, 'lane_program': 19,
-           'lane_run': 18, 'record_text': 63}
+           'lane_memory': 30, 'lane_record': 38, 'lane_access': 24, 'riscv32imc_predicate': 152, 'lane_library': 25, 'lane_exports': 40,
+           'lane_program': 19, 'lane_run': 18, 'record_text': 63}
 OTHER = 30
 QUIET = 1.5  # seconds that rt may take before anything is said of it
 NO_KIT = "rt, the Rattle kit's command, is not on PATH, and there is something to prove and build (README.md, Requirements)"
