@@ -1,0 +1,20 @@
+use Prim.Native.Nat.{_-_, _≤_}
+use borrow.Author.Needs.{needs}
+use Rattle.test_rust_answers.proofs.main.Statement.{statement}
+use Rattle.test_rust_answers.proofs.main.Tie as tie
+
+abbrev I : tie.InvT-loop
+I cases₀ differing₀ count i₀ cases differing i = i ≤ count
+
+pub main-spec : {M : Type 1} → statement M
+main-spec =
+    tie.close
+    (tie.spec I (λ cases₀ differing₀ count i₀ cases differing i. count - i)
+    (λ c κs. search needs)
+    (λ c. search needs)
+    (λ c κs. search needs)
+    (λ c. search needs)
+    (λ c. search needs)
+    (λ c. search needs)
+    (λ c κs. search needs)
+    (λ c. search needs))
