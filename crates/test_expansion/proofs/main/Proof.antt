@@ -4,18 +4,13 @@ use Rattle.test_expansion.proofs.main.Statement.{statement}
 use Rattle.test_expansion.proofs.main.Tie as tie
 
 -- no count is above the number of halfwords passed
-abbrev Inv-loop : tie.InvT-loop
-Inv-loop expanded₀ differing₀ raw₀ t5 t6 t7 expanded differing raw = (raw ≤ 65536) × (expanded ≤ raw) × (differing ≤ raw)
-
-abbrev μ-loop : tie.MeasureT-loop
-μ-loop expanded₀ differing₀ raw₀ t5 t6 t7 expanded differing raw = 65536 - raw
+abbrev I : tie.InvT-loop
+I expanded₀ differing₀ raw₀ expanded differing raw = (raw ≤ 65536) × (expanded ≤ raw) × (differing ≤ raw)
 
 pub main-spec : {M : Type 1} → statement M
 main-spec =
     tie.close
-    (tie.spec
-    Inv-loop
-    μ-loop
+    (tie.spec I (λ expanded₀ differing₀ raw₀ expanded differing raw. 65536 - raw)
     (λ c. search needs)
     (λ c. search needs)
     (λ c κs. search needs)
@@ -28,14 +23,7 @@ main-spec =
     (λ c. search needs)
     (λ c. search needs)
     (λ c. search needs)
-    (λ c κs. search needs)
     (λ c. search needs)
-    (λ c κs. search needs)
-    (λ c. search needs)
-    (λ c κs. search needs)
-    (λ c. search needs)
-    (λ c κs. search needs)
-    (λ c κs. search needs)
     (λ c. search needs)
     (λ c κs. search needs)
     (λ c. search needs))

@@ -1,7 +1,7 @@
 use Prim.Native.Nat.{_-_, _≤_}
 use borrow.Author.Needs.{needs}
-use Rattle.test_predicate_cases.proofs.unlike.Statement.{statement}
-use Rattle.test_predicate_cases.proofs.unlike.Tie as tie
+use Rattle.test_support.proofs.unlike.Statement.{statement}
+use Rattle.test_support.proofs.unlike.Tie as tie
 
 abbrev I : tie.InvT-loop
 I memory from end byte count₀ k₀ count k = from ≤ k
@@ -12,6 +12,8 @@ unlike-spec =
     (tie.spec I (λ memory from end byte count₀ k₀ count k. end - k)
     (λ c. search needs)
     (λ c κs. search needs)
+    (λ c. search needs)
+    (λ c. search needs)
     (λ c κs. search needs)
     (λ c. search needs)
     (λ c. search needs)

@@ -1,2 +1,0 @@
--- How the list writes what a word decodes to.
-pub mod List

@@ -1,2 +1,0 @@
--- How the list writes an expansion.
-pub mod List
