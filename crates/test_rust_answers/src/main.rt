@@ -2,65 +2,39 @@
 // list's, byte for byte, and prints for each number and role of a refusal how many cases there are and how many differ.
 use lane_record::WriteAnswer;
 use little_endian::get_u8;
-use little_endian::get_u32;
-ghost use Prim.Native.Nat.{_≤_};
-ghost use lib.ListN.{length};
+use test_support::next;
+use test_support::next_bytes;
+use test_support::say;
+use test_support::unlike;
 
 // What lent memory holds before a run.
 const BEFORE: u8 = 0xa5;
 
-// Whether the record's bytes come first in the output.
-fn starts(output: &[u8], record: &[u8]) -> bool {
-    let mut k: usize = 0;
-    while k < record.len() {
-        if get_u8(output, k) != get_u8(record, k) {
-            return false;
-        }
-        k += 1;
-    }
-    true
-}
+const ROWS_BYTES: usize = 52_800;
 
-fn is_zero(bytes: &[u8]) -> bool {
-    let mut k: usize = 0;
-    while k < bytes.len() {
-        if get_u8(bytes, k) != 0 {
-            return false;
-        }
-        k += 1;
+const TRACE_BYTES: usize = 26_624;
+
+const RECORD_BYTES: usize = 2048;
+
+// Whether the first n bytes of an output are the record.
+fn starts(output: &[u8], n: usize, record: &[u8]) -> bool {
+    if output.len() < n {
+        return false;
     }
-    true
+    check::same(&output[..n], record)
 }
 
 // Whether an input's run, in 200 rows and 2,048 entries, gives this record and leaves the rows zero.
 fn agrees(input: &[u8], record: &[u8]) -> bool {
-    let mut rows = [BEFORE; 52800];
-    let mut trace = [BEFORE; 26624];
-    let mut output = [BEFORE; 2048];
+    let mut rows = [BEFORE; ROWS_BYTES];
+    let mut trace = [BEFORE; TRACE_BYTES];
+    let mut output = [BEFORE; RECORD_BYTES];
     let answer = lane_library::run_input(input, &mut rows, &mut trace, &mut output);
     match answer {
-        WriteAnswer::Written(n) => n == record.len() && starts(&output, record) && is_zero(&rows),
+        WriteAnswer::Written(n) => starts(&output, n, record)
+            && unlike(&rows, 0, ROWS_BYTES, 0) == 0,
         _ => false,
     }
-}
-
-// The next number, 0 past the end. No contract can say what is read.
-fn next() -> u32 {
-    let mut bytes = [0u8; 4];
-    io::read_full(0, &mut bytes);
-    get_u32(&bytes, 0)
-}
-
-// How many bytes come next, which are read; none where the buffer is too short.
-fn next_bytes(buffer: &mut [u8]) -> usize
-    ensures { λ r. ⌜ r ≤ length (now (buffer .entry)) ⌝ }
-{
-    let count = next() as usize;
-    if buffer.len() < count {
-        return 0;
-    }
-    io::read_full(0, &mut buffer[..count]);
-    count
 }
 
 // Sixteen times a refusal's number, and its role; 0 for an accepted run.
@@ -87,7 +61,7 @@ fn replay(input: &[u8], record: &[u8], cases: &mut [u32; 256], differing: &mut [
 
 fn next_case(cases: &mut [u32; 256], differing: &mut [u32; 256]) {
     let mut input = [0u8; 1024];
-    let mut record = [0u8; 2048];
+    let mut record = [0u8; RECORD_BYTES];
     let input_bytes = next_bytes(&mut input);
     let record_bytes = next_bytes(&mut record);
     replay(
@@ -98,11 +72,6 @@ fn next_case(cases: &mut [u32; 256], differing: &mut [u32; 256]) {
     );
 }
 
-fn say(text: &[u8], n: u32) {
-    io::write_all(1, text);
-    io::print_decimal(1, n as u64);
-}
-
 fn report(class: u8, cases: u32, differing: u32) {
     if cases == 0 {
         return;
@@ -110,11 +79,11 @@ fn report(class: u8, cases: u32, differing: u32) {
     if class == 0 {
         io::write_all(1, b"accepted");
     } else {
-        say(b"refusal ", (class / 16) as u32);
-        say(b" role ", (class % 16) as u32);
+        say(b"refusal ", (class / 16) as u64);
+        say(b" role ", (class % 16) as u64);
     }
-    say(b": ", cases);
-    say(b" replayed, ", differing);
+    say(b": ", cases as u64);
+    say(b" replayed, ", differing as u64);
     io::write_all(1, b" differ\n");
 }
 
