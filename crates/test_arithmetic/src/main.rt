@@ -11,13 +11,16 @@ ghost use lib.ListN.{length};
 use lane_word::LaneWord;
 use riscv32imc::arithmetic::Binary;
 use riscv32imc::arithmetic::value;
+use test_support::differs;
+use test_support::end_line;
+use test_support::say;
 
 const LINE: usize = 33;
 
 struct Counts {
-    pairs: usize,
-    words: usize,
-    lanes: usize,
+    pairs: u64,
+    words: u64,
+    lanes: u64,
 }
 
 fn digit(b: u8) -> u32
@@ -56,12 +59,6 @@ fn column(text: &[u8], lines: usize, first: usize, offset: usize) -> LaneWord
         values,
         known: true,
     }
-}
-
-fn differs(a: u32, b: u32) -> usize
-    ensures { λ r. ⌜ r ≤ 1 ⌝ }
-{
-    if a == b { 0 } else { 1 }
 }
 
 // The method of an operation, as the run chooses it.
@@ -120,9 +117,9 @@ fn compare(text: &[u8], lines: usize, line: usize, name: &[u8], operation: Binar
 
 fn count(text: &[u8], name: &[u8], operation: Binary) -> Counts {
     let lines = text.len() / LINE;
-    let mut pairs: usize = 0;
-    let mut words: usize = 0;
-    let mut lanes: usize = 0;
+    let mut pairs: u64 = 0;
+    let mut words: u64 = 0;
+    let mut lanes: u64 = 0;
     let mut k: usize = 0;
     while k < lines {
         let counts = compare(text, lines, k, name, operation);
@@ -141,13 +138,10 @@ fn count(text: &[u8], name: &[u8], operation: Binary) -> Counts {
 fn report(text: &[u8], name: &[u8], operation: Binary) {
     let counts = count(text, name, operation);
     io::write_all(1, name);
-    io::write_all(1, b" pairs ");
-    io::print_decimal(1, counts.pairs as u64);
-    io::write_all(1, b", different by words ");
-    io::print_decimal(1, counts.words as u64);
-    io::write_all(1, b", by lanes ");
-    io::print_decimal(1, counts.lanes as u64);
-    io::write_all(1, b"\n");
+    say(b" pairs ", counts.pairs);
+    say(b", different by words ", counts.words);
+    say(b", by lanes ", counts.lanes);
+    end_line();
 }
 
 fn immediates(text: &[u8]) {

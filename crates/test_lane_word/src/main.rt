@@ -2,6 +2,8 @@
 ghost use Prim.Native.Nat.{_<_};
 use lane_word::LaneWord;
 use lane_word::Uniform;
+use test_support::end_line;
+use test_support::say;
 
 // 5 in every lane but one.
 fn unlike(lane: usize) -> LaneWord
@@ -18,10 +20,7 @@ fn unlike(lane: usize) -> LaneWord
 fn print(name: &[u8], word: LaneWord) {
     io::write_all(1, name);
     match word.uniform_known() {
-        Uniform::Value(v) => {
-            io::write_all(1, b"value ");
-            io::print_decimal(1, v as u64);
-        }
+        Uniform::Value(v) => say(b"value ", v as u64),
         Uniform::Unknown => {
             io::write_all(1, b"unknown");
         }
@@ -29,7 +28,7 @@ fn print(name: &[u8], word: LaneWord) {
             io::write_all(1, b"uneven");
         }
     }
-    io::write_all(1, b"\n");
+    end_line();
 }
 
 fn main() {

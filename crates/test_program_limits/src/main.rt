@@ -1,8 +1,7 @@
 // Runs the program's function on inputs at its limits and one past them, and prints the first item of each one's record.
 use lane_program::INPUT_BYTES;
-use little_endian::get_u8;
-use little_endian::get_u32;
 use little_endian::put_u32;
+use test_support::say_record;
 ghost use Prim.Native.Nat.{_≤_};
 
 // addi x0, x0, 0
@@ -16,31 +15,11 @@ const ONE: u32 = 0x0010_0513;
 
 const RETURN: u32 = 0x0000_8067;
 
-fn say(text: &[u8], n: u32) {
-    io::write_all(1, text);
-    io::print_decimal(1, n as u64);
-}
-
-// What docs/RECORD.md has at these places of a heading, or of a refusal.
-fn report(record: &[u8]) {
-    if get_u8(record, 0) == 0x01 {
-        say(b": accepted, return value ", get_u32(record, 4));
-        say(b", steps ", get_u32(record, 8));
-        say(b", events ", get_u8(record, 20) as u32);
-        say(b", written bytes ", get_u32(record, 16));
-    } else {
-        say(b": refusal ", get_u8(record, 1) as u32);
-        say(b", role ", get_u8(record, 2) as u32);
-        say(b", steps ", get_u32(record, 3));
-    }
-    io::write_all(1, b"\n");
-}
-
 fn run(name: &[u8], input: &[u8]) {
     let output = lane_program::run_program(input);
     let bytes = output.bytes;
     io::write_all(1, name);
-    report(&bytes);
+    say_record(&bytes);
 }
 
 // Entry at the image's start, event count and events after it.
