@@ -12,6 +12,8 @@ use little_endian::put_u8;
 use little_endian::put_u32;
 use predicate_semantics::CompiledMmioEvent;
 use predicate_semantics::PredicateTransducerExecution;
+use test_support::end_line;
+use test_support::say;
 ghost use Prim.Native.Nat.{_+_, _≤_};
 
 // Document 01's record, 49 bytes, and a byte more.
@@ -137,17 +139,12 @@ enum Series {
     Output,
 }
 
-fn say(n: u64) {
-    io::write_all(1, b" ");
-    io::print_decimal(1, n);
+fn tell(n: u64) {
+    say(b" ", n);
 }
 
-fn end_line() {
-    io::write_all(1, b"\n");
-}
-
-fn say_byte(b: u8) {
-    say(b as u64);
+fn tell_byte(b: u8) {
+    tell(b as u64);
 }
 
 fn read_number(answer: ReadAnswer) -> u64 {
@@ -322,7 +319,7 @@ fn answers(name: &[u8], series: Series, count: usize) {
     io::write_all(1, name);
     let mut k: usize = 0;
     while k < count {
-        say(answer(series, k));
+        tell(answer(series, k));
         k += 1;
     }
     end_line();
@@ -348,17 +345,17 @@ fn no_steps() {
     let mut output = [0u8; 60];
     put_u32(&mut bytes, 8, 0);
     put_u32(&mut bytes, 12, 0);
-    say(read(&bytes, 21, &mut trace, 26));
-    say(write(result_of(&bytes), &trace, 26, &mut output, 60));
+    tell(read(&bytes, 21, &mut trace, 26));
+    tell(write(result_of(&bytes), &trace, 26, &mut output, 60));
     end_line();
 }
 
 fn compare(written: WriteAnswer, output: &[u8], bytes: &[u8]) {
     if let WriteAnswer::Written(n) = written {
-        say(n as u64);
+        tell(n as u64);
         if n < output.len() {
-            say(check::same(&output[..n], bytes) as u64);
-            say_byte(output[n]);
+            tell(check::same(&output[..n], bytes) as u64);
+            tell_byte(output[n]);
         }
     }
 }
@@ -371,13 +368,13 @@ fn round_trip(bytes: &[u8]) {
     let reading = lane_record::read_record(bytes, &mut trace);
     let read = reading.answer;
     let outcome = reading.outcome;
-    say(read_number(read));
+    tell(read_number(read));
     compare(
         lane_record::write_record(outcome, &trace, &mut output),
         &output,
         bytes,
     );
-    say_byte(trace[26]);
+    tell_byte(trace[26]);
     end_line();
 }
 
@@ -406,7 +403,7 @@ fn with_events(n: u8) {
     put_u8(&mut bytes, 20, n);
     put_events(&mut bytes, n);
     copy(&mut bytes, steps, &EXAMPLE, 21, 28);
-    say(n as u64);
+    tell(n as u64);
     round_trip_first(&bytes, steps + 28);
 }
 
@@ -440,8 +437,8 @@ fn lengths() {
 
 fn first_bytes() {
     io::write_all(1, b"first bytes taken:");
-    say(taken(Series::Kind));
-    say(taken(Series::RefusalKind));
+    tell(taken(Series::Kind));
+    tell(taken(Series::RefusalKind));
     end_line();
 }
 
