@@ -24,10 +24,10 @@ use Rattle.lane_record.specs.declared.RecordAnswer.the-variants as answe
 use Rattle.lane_record.specs.declared.ReadAnswer.the-variants as read
 use Rattle.lane_record.specs.declared.RecordReading.{RecordReading}
 use Rattle.lane_record.specs.declared.WriteAnswer.the-variants as write
-use Rattle.lane_record.specs.Format.{heading, event, step, refusal, mark, size, item, items, Record, accepted, refused, executionValues, eventValues, encode, FitsRecord}
+use Rattle.lane_record.specs.Format.{heading, event, step, refusal, kindByte, size, item, items, Record, accepted, refused, executionValues, eventValues, encode, FitsRecord}
 use Rattle.lane_record.specs.Rules.{executionValid, linked, refusalValid, valid}
-use Rattle.lane_record.specs.Decode.{executionAt, eventsAt, refusalAt, stepsFrom, acceptedAt, marked, acceptedForm, ruled, refusedIn, acceptedIn, decode}
-use Rattle.lane_record.specs.Answers.{Said, done, wrote, refuses, refusedReading, noReading, Reads, Exact, acceptedGiven, givenAccepted, Writes}
+use Rattle.lane_record.specs.Decode.{executionAt, eventsAt, refusalAt, stepsFrom, acceptedAt, itemsAre, acceptedForm, ruled, refusedIn, acceptedIn, decodeRecord}
+use Rattle.lane_record.specs.Answers.{Said, wrote, refuses, refusedReading, nothingRead, Reads, Exact, acceptedGiven, givenAccepted, Writes}
 use Rattle.lane_record.proofs.TestLaws.{both, always}
 use Rattle.lane_record.proofs.DecodeLaws.{length-eventsAt, length-stepsAt, decode-encode, rules, Formed, form, Same, decode-same, decode-only}
 
@@ -74,7 +74,7 @@ module _ (e : PredicateTransducerExecution) (bs : List ℕ) where
   form-no h = rw (ne-eqb _ _ h)
 
   pub form-is : length bs ≡ stepsFrom e + e .«symbolic_transitions» * size step
-      → (eqb (getD bs 0 0) (mark heading) && marked event (e .«event_count») (drop (size heading) bs) && marked step (e .«symbolic_transitions») (drop (stepsFrom e) bs)
+      → (eqb (getD bs 0 0) (kindByte heading) && itemsAre event (e .«event_count») (drop (size heading) bs) && itemsAre step (e .«symbolic_transitions») (drop (stepsFrom e) bs)
       && (executionValid e && linked stop steps-in))
       ≡ (acceptedForm e bs && valid (acceptedAt e bs))
   form-is h =
@@ -92,7 +92,7 @@ module _ (e : PredicateTransducerExecution) (bs : List ℕ) where
 
 -- ---- what the reader answers
 module _ (q : Option Record) (t : List ℕ) where
-  pub reads-broken : {r : RecordReading} → q ≡ none → r ≡ noReading read.RulesBroken → Reads q t r t
+  pub reads-broken : {r : RecordReading} → q ≡ none → r ≡ nothingRead read.RulesBroken → Reads q t r t
   reads-broken p e = rw (p, e) (record { answer = refl; outcome = refl; trace = refl })
 
   pub reads-refused : {r : RecordReading} (f : RecordRefusal) → q ≡ some (refused f) → r ≡ refusedReading read.Read f → Reads q t r t
@@ -101,7 +101,7 @@ module _ (q : Option Record) (t : List ℕ) where
 -- where they fail, 15; where they pass and the trace is short, 14
 module _ (e : PredicateTransducerExecution) (bs : List ℕ) where
   pub reads-not : (t : List ℕ) {r : RecordReading} (formed : Bool) → (acceptedForm e bs && valid (acceptedAt e bs)) ≡ formed
-      → (formed && leb (e .«symbolic_transitions» * entryBytes) (length t)) ≡ false → r ≡ noReading (cond formed read.TraceTooShort read.RulesBroken) → Reads (acceptedIn e bs) t r t
+      → (formed && leb (e .«symbolic_transitions» * entryBytes) (length t)) ≡ false → r ≡ nothingRead (cond formed read.TraceTooShort read.RulesBroken) → Reads (acceptedIn e bs) t r t
   reads-not t false w l p = reads-broken (acceptedIn e bs) t (accepted-out e bs w) p
   reads-not t true w l p = rw (accepted-in e bs w, p) (record { answer = rw l; outcome = rw l; trace = rw l })
 
@@ -116,10 +116,10 @@ module _ (e : PredicateTransducerExecution) (bs : List ℕ) (w : (acceptedForm e
   pub events-fit : e .«event_count» ≤ maxEvents
   events-fit = few-events e (rules e (eventsAt (e .«event_count») (drop (size heading) bs)) (steps-in e bs) (parts .1) .0)
 
-  pub reads-done : (t t′ : List ℕ) (list : List CompiledMmioEvent) → e .«symbolic_transitions» * entryBytes ≤ length t
+  pub reads-done : (t : List ℕ) {t′ : List ℕ} {list : List CompiledMmioEvent} → e .«symbolic_transitions» * entryBytes ≤ length t
       → list ≡ sets noEvents 0 (eventsAt (e .«event_count») (drop (size heading) bs)) → t′ ≡ sets t 0 (traceBytes (steps-in e bs))
       → Reads (acceptedIn e bs) t (record { answer = read.Read; outcome = record { answer = answer.Accepted; execution = e; events = list } }) t′
-  reads-done t t′ list l p q =
+  reads-done t l p q =
       let m : length (eventsAt (e .«event_count») (drop (size heading) bs)) ≤ maxEvents = rw length-eventsAt events-fit in
       let n : length (traceBytes (steps-in e bs)) ≤ length t = rw (length-trace, length-stepsAt) l in
       let p′ = p ∙ sets-over (eventsAt (e .«event_count») (drop (size heading) bs)) noEvents m in
@@ -128,16 +128,16 @@ module _ (e : PredicateTransducerExecution) (bs : List ℕ) (w : (acceptedForm e
 
 -- the two kinds of record, by the first byte
 module _ (bs : List ℕ) where
-  pub decode-refused : getD bs 0 0 ≡ mark refusal → decode bs ≡ refusedIn bs
-  unfolding decode
+  pub decode-refused : getD bs 0 0 ≡ kindByte refusal → decodeRecord bs ≡ refusedIn bs
+  unfolding decodeRecord
   decode-refused h = rw (eq-eqb _ _ h)
 
-  pub decode-accepted : (getD bs 0 0 ≡ mark refusal → ⊥) → decode bs ≡ acceptedIn (executionAt bs) bs
-  unfolding decode
+  pub decode-accepted : (getD bs 0 0 ≡ kindByte refusal → ⊥) → decodeRecord bs ≡ acceptedIn (executionAt bs) bs
+  unfolding decodeRecord
   decode-accepted h = rw (ne-eqb _ _ h)
 
   pub exact : AllBytes bs → Exact bs
-  exact b = record { sound = λ x e. let s = decode-same bs b x e in (s .bytes, s .rules, s .fits); complete = decode-only bs }
+  exact b = record { onlyRecords = λ x e. let s = decode-same bs b x e in (s .bytes, s .rules, s .fits); everyRecord = decode-only bs }
 
 -- ---- what the writer answers
 module _ (q : Option Record) (out : List ℕ) where
@@ -158,18 +158,18 @@ module _ (q : Option Record) (out : List ℕ) where
           back = λ y e m. absurd (omega (arith, ap (λ (z : Record). length (encode z)) (same y e)));
         })
 
-    pub writes-done : {out′ : List ℕ} (n : ℕ) → n ≡ length (encode x) → length (encode x) ≤ length out → valid x ≡ true → FitsRecord x → out′ ≡ over (encode x) out
+    pub writes-done : {out′ : List ℕ} {n : ℕ} → n ≡ length (encode x) → length (encode x) ≤ length out → (valid x ≡ true) × FitsRecord x → out′ ≡ over (encode x) out
         → Writes q out (write.Written n) out′
-    writes-done {out′} n en l v f o =
+    writes-done {out′} {n} en l f o =
         let m : leb (length (encode x)) (length out) ≡ true = le-leb _ _ l in
         rw p
         (record {
           answer = ap wrote en ∙ ap (λ (t : Bool). cond {A = Said} t (wrote (length (encode x))) (refuses 16)) (sym m);
           output = o ∙ ap (λ (t : Bool). cond t (over (encode x) out) out) (sym m);
           back = λ y e k.
-              subst (λ (z : Record). decode (take (length (encode z)) out′) ≡ some z) (same y e)
-              (ap (λ (z : List ℕ). decode (take (length (encode x)) z)) o
-              ∙ ap decode (take-append-seam (encode x) (drop (length (encode x)) out)) ∙ decode-encode x f v);
+              subst (λ (z : Record). decodeRecord (take (length (encode z)) out′) ≡ some z) (same y e)
+              (ap (λ (z : List ℕ). decodeRecord (take (length (encode x)) z)) o
+              ∙ ap decodeRecord (take-append-seam (encode x) (drop (length (encode x)) out)) ∙ decode-encode x (f .1) (f .0));
         })
 
 -- ---- the record that a result is
@@ -220,16 +220,20 @@ module _ (e : PredicateTransducerExecution) (es : List CompiledMmioEvent) (t : L
       }
 
   -- the three parts one after another
-  pub written : Passed → (out o1 o2 o3 : List ℕ) → stepsFrom e + e .«symbolic_transitions» * size step ≤ length out
-      → o1 ≡ sets out 0 (item heading (executionValues e)) → o2 ≡ sets o1 (size heading) (items event (map eventValues (take (e .«event_count») es)))
-      → o3 ≡ sets o2 (stepsFrom e) (items step (map stepValues steps-given)) → o3 ≡ over (encode (acceptedGiven e es t)) out
-  written f out o1 o2 o3 l p q r =
+  pub record Parts (out o1 o2 o3 : List ℕ) : Type 0 where
+    pub headed : o1 ≡ sets out 0 (item heading (executionValues e))
+    pub listed : o2 ≡ sets o1 (size heading) (items event (map eventValues (take (e .«event_count») es)))
+    pub traced : o3 ≡ sets o2 (stepsFrom e) (items step (map stepValues steps-given))
+
+  pub written : {out o1 o2 o3 : List ℕ} → Passed → stepsFrom e + e .«symbolic_transitions» * size step ≤ length out → Parts out o1 o2 o3
+      → o3 ≡ over (encode (acceptedGiven e es t)) out
+  written {out} {o1} {o2} {o3} f l p =
       let H : List ℕ = item heading (executionValues e) in
       let E : List ℕ = items event (map eventValues (take (e .«event_count») es)) in
       let S : List ℕ = items step (map stepValues steps-given) in
       let n : 0 + length (H ++ E) ≡ stepsFrom e = omega (arith, length-events (take (e .«event_count») es), length-take-le (e .«event_count») es (omega (arith, f .few))) in
-      let q′ : o2 ≡ sets out 0 (H ++ E) = q ∙ ap (λ (x : List ℕ). sets x (size heading) E) p ∙ sets-append H E out 0 in
-      r
+      let q′ : o2 ≡ sets out 0 (H ++ E) = p .listed ∙ ap (λ (x : List ℕ). sets x (size heading) E) (p .headed) ∙ sets-append H E out 0 in
+      p .traced
       ∙ ap (λ (x : List ℕ). sets x (stepsFrom e) S) q′
       ∙ ap (λ (k : ℕ). sets (sets out 0 (H ++ E)) k S) (sym n)
       ∙ sets-append (H ++ E) S out 0

@@ -22,9 +22,9 @@ use Rattle.predicate_semantics.specs.Program.{stop}
 use Rattle.predicate_semantics.specs.Trace.{entryBytes, stepWidths, stepValues, stepOf, stepsAt}
 use Rattle.predicate_semantics.proofs.TraceLaws.{steps-values}
 use Rattle.lane_record.specs.declared.RecordRefusal.{RecordRefusal}
-use Rattle.lane_record.specs.Format.{Kind, heading, event, step, refusal, mark, widths, size, item, items, Record, accepted, refused, executionValues, executionOf, eventValues, eventOf, refusalValues, refusalOf, encode, FitsRecord}
+use Rattle.lane_record.specs.Format.{Kind, heading, event, step, refusal, kindByte, widths, size, item, items, Record, accepted, refused, executionValues, executionFrom, eventValues, eventFrom, refusalValues, refusalFrom, encode, FitsRecord}
 use Rattle.lane_record.specs.Rules.{executionValid, linked, refusalValid, valid}
-use Rattle.lane_record.specs.Decode.{executionAt, eventsAt, refusalAt, stepsFrom, acceptedAt, marks, marked, acceptedForm, ruled, refusedIn, acceptedIn, decode}
+use Rattle.lane_record.specs.Decode.{executionAt, eventsAt, refusalAt, stepsFrom, acceptedAt, kindsAre, itemsAre, acceptedForm, ruled, refusedIn, acceptedIn, decodeRecord}
 use Rattle.lane_record.proofs.TestLaws.{both, yes}
 
 -- ---- a record or none
@@ -33,7 +33,7 @@ ruled-some true r x e = (refl, (cc))
 ruled-some false r x e = let z : _≡_ {A = ℕ} 0 1 = cc in absurd (omega arith)
 
 -- ---- structs and their numbers
-events-values : (es : List CompiledMmioEvent) → map eventOf (map eventValues es) ≡ es
+events-values : (es : List CompiledMmioEvent) → map eventFrom (map eventValues es) ≡ es
 events-values [] = refl
 events-values (e ∷ es) = ap (λ (r : List CompiledMmioEvent). e ∷ r) (events-values es)
 
@@ -46,7 +46,7 @@ values-steps p zero bs = refl
 values-steps p (suc n) bs = ap (λ (r : List (List ℕ)). unpack stepWidths (drop p bs) ∷ r) (values-steps p n (drop (p + entryBytes) bs))
 
 pub length-eventsAt : (n : ℕ) (bs : List ℕ) → length (eventsAt n bs) ≡ n
-length-eventsAt n bs = length-map (unpacks 1 (widths event) n bs) eventOf ∙ length-unpacks 1 (widths event) n bs
+length-eventsAt n bs = length-map (unpacks 1 (widths event) n bs) eventFrom ∙ length-unpacks 1 (widths event) n bs
 
 pub length-stepsAt : (p n : ℕ) (bs : List ℕ) → length (stepsAt p n bs) ≡ n
 length-stepsAt p n bs = length-map (unpacks p stepWidths n bs) stepOf ∙ length-unpacks p stepWidths n bs
@@ -56,13 +56,13 @@ steps-fit p n bs b h = subst (AllFit (widths step)) (sym (values-steps p n bs)) 
 
 -- ---- items of one kind
 module _ (k : Kind) where
-  marked-items : (vss : List (List ℕ)) (rest : List ℕ) → AllFit (widths k) vss → marked k (length vss) (items k vss ++ rest) ≡ true
-  marked-items [] rest f = refl
-  marked-items (vs ∷ vss) rest f =
-      rw (eq-eqb (mark k) (mark k) refl, append-assoc, past-row (mark k ∷ []) (widths k) vs (items k vss ++ rest) (f .0), marked-items vss rest (f .1))
+  items-are : (vss : List (List ℕ)) (rest : List ℕ) → AllFit (widths k) vss → itemsAre k (length vss) (items k vss ++ rest) ≡ true
+  items-are [] rest f = refl
+  items-are (vs ∷ vss) rest f =
+      rw (eq-eqb (kindByte k) (kindByte k) refl, append-assoc, past-row (kindByte k ∷ []) (widths k) vs (items k vss ++ rest) (f .0), items-are vss rest (f .1))
 
   -- an item read and written again
-  item-at : (bs : List ℕ) → AllBytes bs → size k ≤ length bs → getD bs 0 0 ≡ mark k → item k (unpack (widths k) (drop 1 bs)) ≡ take (size k) bs
+  item-at : (bs : List ℕ) → AllBytes bs → size k ≤ length bs → getD bs 0 0 ≡ kindByte k → item k (unpack (widths k) (drop 1 bs)) ≡ take (size k) bs
   item-at [] h l e = absurd (omega arith)
   item-at (b ∷ bs) h l e = rw (pack-unpack (widths k) bs (λ i. h (suc i)) (omega arith), one-add, ← e)
 
@@ -70,12 +70,12 @@ first-led : (m : ℕ) (bs : List ℕ) → 0 < length bs → getD bs 0 0 ≡ m �
 first-led m [] h e = absurd (omega arith)
 first-led m (b ∷ bs) h e = rw e
 
-marked-led : (m z n : ℕ) (bs : List ℕ) → 0 < z → n * z ≤ length bs → marks m z n bs ≡ true → Led (m ∷ []) z n bs
-marked-led m z zero bs p l t = tt
-marked-led m z (suc n) bs p l t =
+kinds-led : (m z n : ℕ) (bs : List ℕ) → 0 < z → n * z ≤ length bs → kindsAre m z n bs ≡ true → Led (m ∷ []) z n bs
+kinds-led m z zero bs p l t = tt
+kinds-led m z (suc n) bs p l t =
     let k : n * z + z ≤ length bs = rw suc-mul at l in
-    let u = both (eqb (getD bs 0 0) m) (marks m z n (drop z bs)) t in
-    (first-led m bs (omega arith) (eqb-true _ _ (u .0)), marked-led m z n (drop z bs) p (simp length-drop (omega arith)) (u .1))
+    let u = both (eqb (getD bs 0 0) m) (kindsAre m z n (drop z bs)) t in
+    (first-led m bs (omega arith) (eqb-true _ _ (u .0)), kinds-led m z n (drop z bs) p (simp length-drop (omega arith)) (u .1))
 
 -- ---- written, then read
 -- what the rules say of an accepted record's parts
@@ -105,13 +105,13 @@ module _ (e : PredicateTransducerExecution) (es : List CompiledMmioEvent) (ss : 
   steps-counted = rules e es ss v .2
 
   execution-back : executionAt B ≡ e
-  execution-back = ap executionOf (unpack-pack (widths heading) (executionValues e) (E ++ S) (f .0))
+  execution-back = ap executionFrom (unpack-pack (widths heading) (executionValues e) (E ++ S) (f .0))
 
   long-events : length E ≡ e .«event_count» * size event
-  long-events = length-packs (mark event ∷ []) (widths event) (map eventValues es) (f .1) ∙ rw (length-map es eventValues, events-counted)
+  long-events = length-packs (kindByte event ∷ []) (widths event) (map eventValues es) (f .1) ∙ rw (length-map es eventValues, events-counted)
 
   long-steps : length S ≡ e .«symbolic_transitions» * size step
-  long-steps = length-packs (mark step ∷ []) (widths step) (map stepValues ss) (f .2) ∙ rw (length-map ss stepValues, steps-counted)
+  long-steps = length-packs (kindByte step ∷ []) (widths step) (map stepValues ss) (f .2) ∙ rw (length-map ss stepValues, steps-counted)
 
   past-events : drop (stepsFrom e) B ≡ S
   past-events = sym (drop-drop (e .«event_count» * size event) (size heading) B) ∙ drop-at E S (e .«event_count» * size event) long-events
@@ -121,43 +121,43 @@ module _ (e : PredicateTransducerExecution) (es : List CompiledMmioEvent) (ss : 
 
   events-back : eventsAt (e .«event_count») (drop (size heading) B) ≡ es
   events-back =
-      rw (← events-counted, ← length-map es eventValues) (ap (map eventOf) (unpacks-packs (mark event ∷ []) (widths event) (map eventValues es) S (f .1)) ∙ events-values es)
+      rw (← events-counted, ← length-map es eventValues) (ap (map eventFrom) (unpacks-packs (kindByte event ∷ []) (widths event) (map eventValues es) S (f .1)) ∙ events-values es)
 
   steps-in : stepsAt 1 (e .«symbolic_transitions») S ≡ ss
   steps-in =
       rw (← steps-counted, ← length-map ss stepValues, ← append-nil S)
-      (ap (map stepOf) (unpacks-packs (mark step ∷ []) (widths step) (map stepValues ss) [] (f .2)) ∙ steps-values ss)
+      (ap (map stepOf) (unpacks-packs (kindByte step ∷ []) (widths step) (map stepValues ss) [] (f .2)) ∙ steps-values ss)
 
   same-record : acceptedAt e B ≡ accepted e es ss
   same-record =
       ap (λ (x : List CompiledMmioEvent). accepted e x (stepsAt 1 (e .«symbolic_transitions») (drop (stepsFrom e) B))) events-back
       ∙ ap (λ (x : List PredicateControlStep). accepted e es x) (ap (stepsAt 1 (e .«symbolic_transitions»)) past-events ∙ steps-in)
 
-  events-marked : marked event (e .«event_count») (drop (size heading) B) ≡ true
-  events-marked = rw (← events-counted, ← length-map es eventValues) (marked-items event (map eventValues es) S (f .1))
+  events-are : itemsAre event (e .«event_count») (drop (size heading) B) ≡ true
+  events-are = rw (← events-counted, ← length-map es eventValues) (items-are event (map eventValues es) S (f .1))
 
-  steps-marked : marked step (e .«symbolic_transitions») (drop (stepsFrom e) B) ≡ true
-  steps-marked =
-      ap (marked step (e .«symbolic_transitions»)) past-events
-      ∙ rw (← steps-counted, ← length-map ss stepValues, ← append-nil S) (marked-items step (map stepValues ss) [] (f .2))
+  steps-are : itemsAre step (e .«symbolic_transitions») (drop (stepsFrom e) B) ≡ true
+  steps-are =
+      ap (itemsAre step (e .«symbolic_transitions»)) past-events
+      ∙ rw (← steps-counted, ← length-map ss stepValues, ← append-nil S) (items-are step (map stepValues ss) [] (f .2))
 
   formed : acceptedForm e B ≡ true
-  formed = yes (yes (yes (eq-eqb (length B) (stepsFrom e + e .«symbolic_transitions» * size step) long) refl) events-marked) steps-marked
+  formed = yes (yes (yes (eq-eqb (length B) (stepsFrom e + e .«symbolic_transitions» * size step) long) refl) events-are) steps-are
 
-  accepted-back : decode B ≡ some (accepted e es ss)
-  unfolding decode
+  accepted-back : decodeRecord B ≡ some (accepted e es ss)
+  unfolding decodeRecord
   accepted-back =
       ap (λ (x : PredicateTransducerExecution). acceptedIn x B) execution-back
       ∙ ap (λ (x : Record). ruled (acceptedForm e B && valid x) x) same-record
       ∙ ap (λ (t : Bool). ruled t (accepted e es ss)) (yes formed v)
 
-refused-back : (f : RecordRefusal) → FitsRecord (refused f) → valid (refused f) ≡ true → decode (encode (refused f)) ≡ some (refused f)
-unfolding decode
+refused-back : (f : RecordRefusal) → FitsRecord (refused f) → valid (refused f) ≡ true → decodeRecord (encode (refused f)) ≡ some (refused f)
+unfolding decodeRecord
 refused-back f fits v =
-    ap (λ (x : RecordRefusal). ruled (valid (refused x)) (refused x)) (ap refusalOf (unpack-pack (widths refusal) (refusalValues f) [] fits))
+    ap (λ (x : RecordRefusal). ruled (valid (refused x)) (refused x)) (ap refusalFrom (unpack-pack (widths refusal) (refusalValues f) [] fits))
     ∙ ap (λ (t : Bool). ruled t (refused f)) v
 
-pub decode-encode : (x : Record) → FitsRecord x → valid x ≡ true → decode (encode x) ≡ some x
+pub decode-encode : (x : Record) → FitsRecord x → valid x ≡ true → decodeRecord (encode x) ≡ some x
 decode-encode (accepted e es ss) f v = accepted-back e es ss f v
 decode-encode (refused r) f v = refused-back r f v
 
@@ -165,16 +165,16 @@ decode-encode (refused r) f v = refused-back r f v
 -- what the tests of an accepted record's form say
 pub record Formed (e : PredicateTransducerExecution) (bs : List ℕ) : Type 0 where
   pub exact : length bs ≡ stepsFrom e + e .«symbolic_transitions» * size step
-  pub kind : getD bs 0 0 ≡ mark heading
-  pub events-marked : marked event (e .«event_count») (drop (size heading) bs) ≡ true
-  pub steps-marked : marked step (e .«symbolic_transitions») (drop (stepsFrom e) bs) ≡ true
+  pub kind : getD bs 0 0 ≡ kindByte heading
+  pub events-are : itemsAre event (e .«event_count») (drop (size heading) bs) ≡ true
+  pub steps-are : itemsAre step (e .«symbolic_transitions») (drop (stepsFrom e) bs) ≡ true
 
 pub form : (e : PredicateTransducerExecution) (bs : List ℕ) → acceptedForm e bs ≡ true → Formed e bs
 form e bs f =
-    let t3 = both _ (marked step (e .«symbolic_transitions») (drop (stepsFrom e) bs)) f in
-    let t2 = both _ (marked event (e .«event_count») (drop (size heading) bs)) (t3 .0) in
-    let t1 = both (eqb (length bs) (stepsFrom e + e .«symbolic_transitions» * size step)) (eqb (getD bs 0 0) (mark heading)) (t2 .0) in
-    record { exact = eqb-true _ _ (t1 .0); kind = eqb-true _ _ (t1 .1); events-marked = t2 .1; steps-marked = t3 .1 }
+    let t3 = both _ (itemsAre step (e .«symbolic_transitions») (drop (stepsFrom e) bs)) f in
+    let t2 = both _ (itemsAre event (e .«event_count») (drop (size heading) bs)) (t3 .0) in
+    let t1 = both (eqb (length bs) (stepsFrom e + e .«symbolic_transitions» * size step)) (eqb (getD bs 0 0) (kindByte heading)) (t2 .0) in
+    record { exact = eqb-true _ _ (t1 .0); kind = eqb-true _ _ (t1 .1); events-are = t2 .1; steps-are = t3 .1 }
 
 three-parts : (x y z : ℕ) (bs : List ℕ) → length bs ≡ x + y + z → take x bs ++ (take y (drop x bs) ++ take z (drop (x + y) bs)) ≡ bs
 three-parts x y z bs e =
@@ -199,9 +199,9 @@ module _ (bs : List ℕ) (b : AllBytes bs) where
       let bE : AllBytes E = below-drop (size heading) bs b in
       let bS : AllBytes S = below-drop (size heading + n * size event) bs b in
       let pE : items event (map eventValues (eventsAt n E)) ≡ take (n * size event) E =
-      ap (items event) (values-events n E) ∙ packs-unpacks (mark event ∷ []) (widths event) n E bE lE (marked-led (mark event) (size event) n E (omega arith) lE (g .events-marked)) in
+      ap (items event) (values-events n E) ∙ packs-unpacks (kindByte event ∷ []) (widths event) n E bE lE (kinds-led (kindByte event) (size event) n E (omega arith) lE (g .events-are)) in
       let pS : items step (map stepValues (stepsAt 1 s S)) ≡ take (s * size step) S =
-      ap (items step) (values-steps 1 s S) ∙ packs-unpacks (mark step ∷ []) stepWidths s S bS lS (marked-led (mark step) (size step) s S (omega arith) lS (g .steps-marked)) in
+      ap (items step) (values-steps 1 s S) ∙ packs-unpacks (kindByte step ∷ []) stepWidths s S bS lS (kinds-led (kindByte step) (size step) s S (omega arith) lS (g .steps-are)) in
       let pH : item heading (executionValues (executionAt bs)) ≡ take (size heading) bs = item-at heading bs b (omega (arith, g .exact)) (g .kind) in
       record {
         bytes = ap (λ (x : List ℕ). x ++ (items event (map eventValues (eventsAt n E)) ++ items step (map stepValues (stepsAt 1 s S)))) pH
@@ -216,7 +216,7 @@ module _ (bs : List ℕ) (b : AllBytes bs) where
         );
       }
 
-  refused-same : getD bs 0 0 ≡ mark refusal → length bs ≡ size refusal → refusalValid (refusalAt bs) ≡ true → Same bs (refused (refusalAt bs))
+  refused-same : getD bs 0 0 ≡ kindByte refusal → length bs ≡ size refusal → refusalValid (refusalAt bs) ≡ true → Same bs (refused (refusalAt bs))
   refused-same m l v =
       record {
         bytes = item-at refusal bs b (omega arith) m ∙ take-all (size refusal) bs (omega arith);
@@ -224,7 +224,7 @@ module _ (bs : List ℕ) (b : AllBytes bs) where
         fits = unpack-fits (widths refusal) (drop 1 bs) (below-drop 1 bs b) (simp length-drop (omega arith));
       }
 
-  same-cases : (x : Record) (m : Bool) → eqb (getD bs 0 0) (mark refusal) ≡ m → cond m (refusedIn bs) (acceptedIn (executionAt bs) bs) ≡ some x → Same bs x
+  same-cases : (x : Record) (m : Bool) → eqb (getD bs 0 0) (kindByte refusal) ≡ m → cond m (refusedIn bs) (acceptedIn (executionAt bs) bs) ≡ some x → Same bs x
   same-cases x true p e =
       let u = ruled-some (eqb (length bs) (size refusal) && valid (refused (refusalAt bs))) (refused (refusalAt bs)) x e in
       let t = both (eqb (length bs) (size refusal)) (valid (refused (refusalAt bs))) (u .0) in
@@ -234,10 +234,10 @@ module _ (bs : List ℕ) (b : AllBytes bs) where
       let t = both (acceptedForm (executionAt bs) bs) (valid (acceptedAt (executionAt bs) bs)) (u .0) in
       subst (Same bs) (u .1) (accepted-same (t .0) (t .1))
 
-  pub decode-same : (x : Record) → decode bs ≡ some x → Same bs x
-  unfolding decode
-  decode-same x e = same-cases x (eqb (getD bs 0 0) (mark refusal)) refl e
+  pub decode-same : (x : Record) → decodeRecord bs ≡ some x → Same bs x
+  unfolding decodeRecord
+  decode-same x e = same-cases x (eqb (getD bs 0 0) (kindByte refusal)) refl e
 
 -- and the bytes of a record that keeps the rules read as it
-pub decode-only : (bs : List ℕ) (x : Record) → encode x ≡ bs → valid x ≡ true → FitsRecord x → decode bs ≡ some x
-decode-only bs x e v f = subst (λ (y : List ℕ). decode y ≡ some x) e (decode-encode x f v)
+pub decode-only : (bs : List ℕ) (x : Record) → encode x ≡ bs → valid x ≡ true → FitsRecord x → decodeRecord bs ≡ some x
+decode-only bs x e v f = subst (λ (y : List ℕ). decodeRecord y ≡ some x) e (decode-encode x f v)

@@ -4,7 +4,7 @@ use mathlib.Core.Option.{some}
 use mathlib.Core.List.{List, [], _∷_}
 use Prim.Native.Nat.{ℕ}
 use Rattle.lane_record.specs.Format.{Record, accepted, encode}
-use Rattle.lane_record.specs.Decode.{decode}
+use Rattle.lane_record.specs.Decode.{decodeRecord}
 
 abbrev shown : List ℕ
 shown =
@@ -28,8 +28,8 @@ meant =
     (record { «program_counter» = 0x80000000; «instruction_word» = 0x00100513; «instruction_bytes» = 2; «next_program_counter» = 0x80000002 }
     ∷ record { «program_counter» = 0x80000002; «instruction_word» = 0x00008067; «instruction_bytes» = 2; «next_program_counter» = 0x801FFFFC } ∷ [])
 
-pub example-read : decode shown ≡ some meant
-unfolding decode
+pub example-read : decodeRecord shown ≡ some meant
+unfolding decodeRecord
 example-read = refl
 
 pub example-written : encode meant ≡ shown

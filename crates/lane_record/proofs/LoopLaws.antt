@@ -10,7 +10,6 @@ use lib.Dec.{eqb}
 use lib.ListN.{length, getD, take, drop, set, length-set, length-append}
 use lib.Seq.{sets, drop-cons, drop-drop, getD-drop}
 use borrow.Author.Tests.{eq-eqb, ne-eqb}
-use Rattle.little_endian.specs.Number as number
 use Rattle.little_endian.specs.Pack.{pack, unpack, packs, Fits, AllFit}
 use Rattle.little_endian.proofs.SetLaws.{sets-step}
 use Rattle.predicate_semantics.specs.declared.PredicateControlStep.{PredicateControlStep}
@@ -18,9 +17,9 @@ use Rattle.predicate_semantics.specs.declared.CompiledMmioEvent.{CompiledMmioEv
 use Rattle.predicate_semantics.specs.Blank.{noEvent}
 use Rattle.predicate_semantics.specs.Program.{stop, maxEvents}
 use Rattle.predicate_semantics.specs.Trace.{entryBytes, stepWidths, stepValues, stepOf, stepsAt}
-use Rattle.lane_record.specs.Format.{heading, event, widths, size, item, items, eventValues, eventOf}
+use Rattle.lane_record.specs.Format.{heading, event, widths, size, item, items, eventValues, eventFrom}
 use Rattle.lane_record.specs.Rules.{link, begins, linked}
-use Rattle.lane_record.specs.Decode.{eventsAt, marks}
+use Rattle.lane_record.specs.Decode.{eventsAt, kindsAre}
 
 -- one of n rooms of z
 one-less : (n z : ℕ) → 0 < n → n * z ≡ z + (n - 1) * z
@@ -31,29 +30,29 @@ pub room : (at n z l : ℕ) → at + n * z ≤ l → 0 < n → at + z ≤ l
 room at n z l h k = omega (arith, one-less n z k)
 
 -- ---- bytes of kind
-marks-suc : (m z n : ℕ) (bs : List ℕ) → 0 < n → marks m z n bs ≡ (eqb (getD bs 0 0) m && marks m z (n - 1) (drop z bs))
-marks-suc m z zero bs h = absurd (omega arith)
-marks-suc m z (suc n) bs h = let e : suc n - 1 ≡ n = omega arith in rw e
+kinds-suc : (m z n : ℕ) (bs : List ℕ) → 0 < n → kindsAre m z n bs ≡ (eqb (getD bs 0 0) m && kindsAre m z (n - 1) (drop z bs))
+kinds-suc m z zero bs h = absurd (omega arith)
+kinds-suc m z (suc n) bs h = let e : suc n - 1 ≡ n = omega arith in rw e
 
-pub record Marking (s : List ℕ) (m z : ℕ) (b : Bool) (at left : ℕ) : Type 0 where
+pub record KindsLeft (s : List ℕ) (m z : ℕ) (b : Bool) (at left : ℕ) : Type 0 where
   pub fits : at + left * z ≤ length s
-  pub rest : b ≡ marks m z left (drop at s)
+  pub rest : b ≡ kindsAre m z left (drop at s)
 
-module _ {s : List ℕ} {m z : ℕ} {b : Bool} {at left : ℕ} (t : Marking s m z b at left) where
-  next : 0 < left → b ≡ (eqb (getD s at 0) m && marks m z (left - 1) (drop (at + z) s))
-  next h = t .rest ∙ marks-suc m z left (drop at s) h ∙ rw (getD-drop at s 0 0, add-zero at, drop-drop z at s)
+module _ {s : List ℕ} {m z : ℕ} {b : Bool} {at left : ℕ} (t : KindsLeft s m z b at left) where
+  next : 0 < left → b ≡ (eqb (getD s at 0) m && kindsAre m z (left - 1) (drop (at + z) s))
+  next h = t .rest ∙ kinds-suc m z left (drop at s) h ∙ rw (getD-drop at s 0 0, add-zero at, drop-drop z at s)
 
-  pub marking-room : 0 < left → at + z ≤ length s
-  marking-room h = room at left z (length s) (t .fits) h
+  pub kinds-room : 0 < left → at + z ≤ length s
+  kinds-room h = room at left z (length s) (t .fits) h
 
-  pub marking-no : 0 < left → (getD s at 0 ≡ m → ⊥) → false ≡ b
-  marking-no h e = sym (next h ∙ rw (ne-eqb _ _ e))
+  pub kinds-no : 0 < left → (getD s at 0 ≡ m → ⊥) → false ≡ b
+  kinds-no h e = sym (next h ∙ rw (ne-eqb _ _ e))
 
-  pub marking-step : 0 < left → getD s at 0 ≡ m → Marking s m z b (at + z) (left - 1)
-  marking-step h e = record { fits = omega (arith, one-less left z h, t .fits); rest = next h ∙ rw (eq-eqb _ _ e) }
+  pub kinds-step : 0 < left → getD s at 0 ≡ m → KindsLeft s m z b (at + z) (left - 1)
+  kinds-step h e = record { fits = omega (arith, one-less left z h, t .fits); rest = next h ∙ rw (eq-eqb _ _ e) }
 
-  pub marking-yes : left ≤ 0 → true ≡ b
-  marking-yes h = let e : left ≡ 0 = omega arith in sym (t .rest ∙ rw e)
+  pub kinds-yes : left ≤ 0 → true ≡ b
+  kinds-yes h = let e : left ≡ 0 = omega arith in sym (t .rest ∙ rw e)
 
 -- ---- steps
 steps-suc : (p n : ℕ) (bs : List ℕ) → 0 < n → stepsAt p n bs ≡ stepOf (unpack stepWidths (drop p bs)) ∷ stepsAt p (n - 1) (drop (p + entryBytes) bs)
@@ -69,8 +68,9 @@ steps-next s at p n x e h =
     ∙ ap (λ (y : PredicateControlStep). y ∷ stepsAt p (n - 1) (drop (p + entryBytes) (drop at s))) (sym e)
     ∙ ap (λ (y : List ℕ). x ∷ stepsAt p (n - 1) y) (drop-drop (p + entryBytes) at s)
 
-pub begins-some : (s : List ℕ) (at p n : ℕ) → 0 < n → number.value (take 4 (drop (at + p) s)) ≡ begins stop (stepsAt p n (drop at s))
-begins-some s at p n h = sym (ap (begins stop) (steps-next s at p n _ refl h))
+pub begins-some : (s : List ℕ) (at p n : ℕ) (x : PredicateControlStep) → x ≡ stepOf (unpack stepWidths (drop (at + p) s)) → 0 < n
+    → x .«program_counter» ≡ begins stop (stepsAt p n (drop at s))
+begins-some s at p n x e h = sym (ap (begins stop) (steps-next s at p n x e h))
 
 pub record Linking (s : List ℕ) (p : ℕ) (b : Bool) (at left : ℕ) : Type 0 where
   pub fits : at + left * (p + entryBytes) ≤ length s
@@ -174,7 +174,7 @@ pub taking-start : (s : List ℕ) (es : List CompiledMmioEvent) (n : ℕ) → le
 taking-start s es n h = let e : n - 0 ≡ n = omega arith in record { long = h; within = omega arith; place = refl; rest = rw e }
 
 module _ {s : List ℕ} {final : List CompiledMmioEvent} {n : ℕ} {es : List CompiledMmioEvent} {k at : ℕ} (c : Taking s final n es k at) where
-  pub taking-step : (e : CompiledMmioEvent) → k < n → e ≡ eventOf (unpack (widths event) (drop (at + 1) s)) → Taking s final n (set es k e) (k + 1) (at + size event)
+  pub taking-step : (e : CompiledMmioEvent) → k < n → e ≡ eventFrom (unpack (widths event) (drop (at + 1) s)) → Taking s final n (set es k e) (k + 1) (at + size event)
   taking-step e h q =
       let e1 : n - k ≡ suc (n - (k + 1)) = omega arith in
       record {

@@ -25,9 +25,9 @@ use Rattle.lane_record.specs.declared.RecordAnswer.the-variants as answe
 use Rattle.lane_record.specs.declared.RecordOutcome.{RecordOutcome}
 use Rattle.lane_record.specs.Format.{step, widths, Record, accepted, refused, encode, FitsRecord}
 use Rattle.lane_record.specs.Rules.{link, begins, linked, valid}
-use Rattle.lane_record.specs.Decode.{ruled, decode}
+use Rattle.lane_record.specs.Decode.{ruled, decodeRecord}
 use Rattle.lane_record.specs.Answers.{Said, done, wrote, refuses, noOutcome, refusedOutcome, acceptedOutcome, readAnswer, readOutcome, readTrace, acceptedGiven, givenAccepted, givenRefused, givenBy, given, writeAnswer, writeOutput}
-use Rattle.lane_record.specs.RoundTrip.{countedBy, entriesBy, FitsBy, ReadBack, Rewritten}
+use Rattle.lane_record.specs.RoundTrip.{whatCountsBy, entriesBy, FitsBy, ReadBack, Rewritten}
 use Rattle.lane_record.proofs.TestLaws.{both, yes}
 use Rattle.lane_record.proofs.DecodeLaws.{ruled-some, values-steps, steps-fit, rules, decode-encode, Same, decode-same}
 
@@ -98,10 +98,10 @@ wrote-given none out n e = let z : _≡_ {A = ℕ} 0 1 = cc in absurd (omega ari
 wrote-given (some x) out n e = (x, refl, wrote-bytes x out n (leb (length (encode x)) (length out)) e)
 
 -- of that record the reader gives what counts of the outcome, and the entries
-given-read : (a : RecordAnswer) (e : PredicateTransducerExecution) (es : List CompiledMmioEvent) (t t2 : List ℕ) (x : Record) → givenBy a e es t ≡ some x
+given-read : (a : RecordAnswer) (e : PredicateTransducerExecution) (es : List CompiledMmioEvent) (t t2 : List ℕ) {x : Record} → givenBy a e es t ≡ some x
     → AllBytes t → length (entriesBy a e t) ≤ length t2
-    → (readAnswer (some x) (length t2) ≡ done) × (readOutcome (some x) (length t2) ≡ countedBy a e es) × (readTrace (some x) t2 ≡ over (entriesBy a e t) t2)
-given-read answer.Accepted e es t t2 x g b l =
+    → (readAnswer (some x) (length t2) ≡ done) × (readOutcome (some x) (length t2) ≡ whatCountsBy a e es) × (readTrace (some x) t2 ≡ over (entriesBy a e t) t2)
+given-read answer.Accepted e es t t2 {x} g b l =
     let u = given-accepted e es t x g in
     let n = le-leb (e .«symbolic_transitions» * entryBytes) (length t2) (omega (arith, length-take-le (e .«symbolic_transitions» * entryBytes) t (u .0))) in
     subst (λ (y : Record).
@@ -109,7 +109,7 @@ given-read answer.Accepted e es t t2 x g b l =
     × (readOutcome (some y) (length t2) ≡ acceptedOutcome e (take (e .«event_count») es))
     × (readTrace (some y) t2 ≡ over (take (e .«symbolic_transitions» * entryBytes) t) t2))
     (u .2) (rw n, rw n, rw (n, entries-same (e .«symbolic_transitions») t b (u .0)))
-given-read (answer.Refused f) e es t t2 x g b l =
+given-read (answer.Refused f) e es t t2 {x} g b l =
     subst (λ (y : Record).
     (readAnswer (some y) (length t2) ≡ done) × (readOutcome (some y) (length t2) ≡ refusedOutcome f) × (readTrace (some y) t2 ≡ t2))
     (given-refused f x g .1) (refl, refl, refl)
@@ -118,9 +118,9 @@ pub read-back : ReadBack
 read-back o t out f b n w t2 l =
     let s = wrote-given (given o t) out n w in
     let v = given-valid (o .answer) (o .execution) (o .events) t (s .0) (s .1) in
-    let d : decode (take n (writeOutput (given o t) out)) ≡ some (s .0) =
-    ap decode (s .2) ∙ decode-encode (s .0) (given-fits (o .answer) (o .execution) (o .events) t (s .0) (s .1) f b) v in
-    rw d (given-read (o .answer) (o .execution) (o .events) t t2 (s .0) (s .1) b l)
+    let d : decodeRecord (take n (writeOutput (given o t) out)) ≡ some (s .0) =
+    ap decodeRecord (s .2) ∙ decode-encode (s .0) (given-fits (o .answer) (o .execution) (o .events) t (s .0) (s .1) f b) v in
+    rw d (given-read (o .answer) (o .execution) (o .events) t t2 (s .1) b l)
 
 -- ---- read, then written
 module _ (e : PredicateTransducerExecution) (es : List CompiledMmioEvent) (ss : List PredicateControlStep) (t : List ℕ)
@@ -137,14 +137,14 @@ module _ (e : PredicateTransducerExecution) (es : List CompiledMmioEvent) (ss : 
   again false d = let z : _≡_ {A = ℕ} 0 1 = cc in absurd (omega arith)
 
 -- what was read stands for the record that was read
-read-write : (bs t : List ℕ) (x : Record) → AllBytes bs → decode bs ≡ some x → readAnswer (some x) (length t) ≡ done
+read-write : (bs t : List ℕ) (x : Record) → AllBytes bs → decodeRecord bs ≡ some x → readAnswer (some x) (length t) ≡ done
     → given (readOutcome (some x) (length t)) (readTrace (some x) t) ≡ some x
 read-write bs t (refused f) b e d = let s = decode-same bs b (refused f) e in rw (s .rules)
 read-write bs t (accepted h es ss) b e d =
     let s = decode-same bs b (accepted h es ss) e in again h es ss t (s .fits) (s .rules) (leb (h .«symbolic_transitions» * entryBytes) (length t)) d
 
 -- so it is written again byte for byte
-record-rewritten : (bs t out : List ℕ) (x : Record) → AllBytes bs → decode bs ≡ some x → readAnswer (some x) (length t) ≡ done → length bs ≤ length out
+record-rewritten : (bs t out : List ℕ) (x : Record) → AllBytes bs → decodeRecord bs ≡ some x → readAnswer (some x) (length t) ≡ done → length bs ≤ length out
     → (writeAnswer (given (readOutcome (some x) (length t)) (readTrace (some x) t)) (length out) ≡ wrote (length bs))
     × (writeOutput (given (readOutcome (some x) (length t)) (readTrace (some x) t)) out ≡ over bs out)
 record-rewritten bs t out x b e d l =
@@ -166,6 +166,6 @@ taken (some x) n d = (x, refl)
 
 pub rewritten : Rewritten
 rewritten bs t b d out l =
-    let s = taken (decode bs) (length t) d in
+    let s = taken (decodeRecord bs) (length t) d in
     let e = s .1 in
     rw e (record-rewritten bs t out (s .0) b e (rw e at d) l)

@@ -1,11 +1,11 @@
--- What the writer and the reader answer and leave, for every input and every lent byte (document 01, "Record" and "Who causes a refusal").
+-- What the writer and the reader answer and leave, for every input and every lent byte (Record; Who causes a refusal).
 use mathlib.Core.Path.{_≡_}
-use mathlib.Core.Bool.{Bool, true, cond, _&&_}
+use mathlib.Core.Bool.{true, cond, _&&_}
 use mathlib.Core.Option.{Option, none, some}
 use mathlib.Core.List.{List}
 use Prim.Native.Nat.{ℕ, _*_, _≤_}
 use lib.Dec.{leb}
-use lib.ListN.{length, take, replicate}
+use lib.ListN.{length, take}
 use Rattle.little_endian.specs.Lent.{over}
 use Rattle.predicate_semantics.specs.declared.CompiledMmioEvent.{CompiledMmioEvent}
 use Rattle.predicate_semantics.specs.declared.PredicateTransducerExecution.{PredicateTransducerExecution}
@@ -22,7 +22,7 @@ use Rattle.lane_record.specs.declared.WriteAnswer.{WriteAnswer}
 use Rattle.lane_record.specs.declared.WriteAnswer.the-variants as write
 use Rattle.lane_record.specs.Format.{Record, accepted, refused, encode, FitsRecord}
 use Rattle.lane_record.specs.Rules.{valid}
-use Rattle.lane_record.specs.Decode.{ruled, decode}
+use Rattle.lane_record.specs.Decode.{ruled, decodeRecord}
 
 -- an answer in document 01's numbers: done, so many bytes written, or refused with a number
 pub data Said : Type 0 where
@@ -57,24 +57,24 @@ noOutcome = refusedOutcome (record { number = 0; role = 0; steps = 0 })
 abbrev pub refusedReading : ReadAnswer → RecordRefusal → RecordReading
 refusedReading a f = record { answer = a; outcome = refusedOutcome f }
 
-abbrev pub noReading : ReadAnswer → RecordReading
-noReading a = record { answer = a; outcome = noOutcome }
+abbrev pub nothingRead : ReadAnswer → RecordReading
+nothingRead a = record { answer = a; outcome = noOutcome }
 
 -- ---- reading
 
--- 15 where the bytes are no record, then 14 where the lent trace of n bytes is shorter than the record's steps
+-- 15 where the bytes are no record, then 14 where a trace of n bytes has no entry for some step
 abbrev pub readAnswer : Option Record → ℕ → Said
 readAnswer none n = refuses 15
 readAnswer (some (refused f)) n = done
 readAnswer (some (accepted e es ss)) n = cond (leb (e .«symbolic_transitions» * entryBytes) n) done (refuses 14)
 
--- the first item's fields and the events by value, zeros after the last
+-- the heading and the events, with zeros up to the most events
 abbrev pub readOutcome : Option Record → ℕ → RecordOutcome
 readOutcome none n = noOutcome
 readOutcome (some (refused f)) n = refusedOutcome f
 readOutcome (some (accepted e es ss)) n = cond (leb (e .«symbolic_transitions» * entryBytes) n) (acceptedOutcome e es) noOutcome
 
--- the steps in the lent trace, whose later entries stay untouched; 15 and 14 write nothing
+-- the trace begins with the steps and is else as it was; after 15 and 14 it is whole as it was
 abbrev pub readTrace : Option Record → List ℕ → List ℕ
 readTrace none t = t
 readTrace (some (refused f)) t = t
@@ -87,8 +87,8 @@ pub record Reads (q : Option Record) (t : List ℕ) (r : RecordReading) (t′ : 
 
 -- the reader takes bytes exactly where they are those of a record that keeps the rules
 pub record Exact (bs : List ℕ) : Type 0 where
-  pub sound : (x : Record) → decode bs ≡ some x → (encode x ≡ bs) × (valid x ≡ true) × FitsRecord x
-  pub complete : (x : Record) → encode x ≡ bs → valid x ≡ true → FitsRecord x → decode bs ≡ some x
+  pub onlyRecords : (x : Record) → decodeRecord bs ≡ some x → (encode x ≡ bs) × (valid x ≡ true) × FitsRecord x
+  pub everyRecord : (x : Record) → encode x ≡ bs → valid x ≡ true → FitsRecord x → decodeRecord bs ≡ some x
 
 -- ---- writing
 
@@ -96,7 +96,7 @@ pub record Exact (bs : List ℕ) : Type 0 where
 abbrev pub acceptedGiven : PredicateTransducerExecution → List CompiledMmioEvent → List ℕ → Record
 acceptedGiven e es t = accepted e (take (e .«event_count») es) (stepsAt 0 (e .«symbolic_transitions») t)
 
--- a trace shorter than the steps breaks the rules
+-- that a trace has an entry for each step is one of the rules
 abbrev pub givenAccepted : PredicateTransducerExecution → List CompiledMmioEvent → List ℕ → Option Record
 givenAccepted e es t =
     ruled (leb (e .«symbolic_transitions» * entryBytes) (length t) && valid (acceptedGiven e es t)) (acceptedGiven e es t)
@@ -112,12 +112,12 @@ givenBy (answer.Refused f) e es t = givenRefused f
 abbrev pub given : RecordOutcome → List ℕ → Option Record
 given o t = givenBy (o .answer) (o .execution) (o .events) t
 
--- 15 before 16; else the number of bytes written
+-- 15, then 16; else how many bytes are written
 abbrev pub writeAnswer : Option Record → ℕ → Said
 writeAnswer none n = refuses 15
 writeAnswer (some x) n = cond (leb (length (encode x)) n) (wrote (length (encode x))) (refuses 16)
 
--- the record's bytes, past which output is untouched; 15 and 16 write nothing
+-- the output begins with the record and is else as it was; after 15 and 16 it is whole as it was
 abbrev pub writeOutput : Option Record → List ℕ → List ℕ
 writeOutput none out = out
 writeOutput (some x) out = cond (leb (length (encode x)) (length out)) (over (encode x) out) out
@@ -126,4 +126,4 @@ pub record Writes (q : Option Record) (out : List ℕ) (r : WriteAnswer) (out′
   pub answer : writeSaid r ≡ writeAnswer q (length out)
   pub output : out′ ≡ writeOutput q out
   -- what was written reads back as itself
-  pub back : (x : Record) → q ≡ some x → length (encode x) ≤ length out → decode (take (length (encode x)) out′) ≡ some x
+  pub back : (x : Record) → q ≡ some x → length (encode x) ≤ length out → decodeRecord (take (length (encode x)) out′) ≡ some x

@@ -1,4 +1,4 @@
--- The bytes of a record (document 01, "Record"): each item is one byte of kind, then a body whose length the kind fixes.
+-- The bytes of a record (Record): items, each led by a byte that says its kind, and so how long it is.
 use mathlib.Core.List.{List, [], _∷_, _++_, map}
 use Prim.Native.Nat.{ℕ, _+_}
 use lib.ListN.{getD}
@@ -12,12 +12,12 @@ use Rattle.lane_record.specs.declared.RecordRefusal.{RecordRefusal}
 pub data Kind : Type 0 where
   heading event step refusal : Kind
 
--- the byte of kind
-abbrev pub mark : Kind → ℕ
-mark heading = 0x01
-mark event = 0x02
-mark step = 0x03
-mark refusal = 0x7F
+-- the first byte of an item
+abbrev pub kindByte : Kind → ℕ
+kindByte heading = 0x01
+kindByte event = 0x02
+kindByte step = 0x03
+kindByte refusal = 0x7F
 
 -- the widths of a body's numbers
 abbrev pub widths : Kind → List ℕ
@@ -29,30 +29,30 @@ widths step = stepWidths
 -- refusal, role, completed steps
 widths refusal = 1 ∷ 1 ∷ 4 ∷ []
 
--- an item's length, with its byte of kind
+-- an item's length, its first byte counted
 abbrev pub size : Kind → ℕ
 size k = 1 + total (widths k)
 
 -- an item, and items one after another
 abbrev pub item : Kind → List ℕ → List ℕ
-item k vs = mark k ∷ pack (widths k) vs
+item k vs = kindByte k ∷ pack (widths k) vs
 
 abbrev pub items : Kind → List (List ℕ) → List ℕ
-items k vss = packs (mark k ∷ []) (widths k) vss
+items k vss = packs (kindByte k ∷ []) (widths k) vss
 
--- a record is 01, its events, its steps; or one 7F
+-- an accepted run has a heading, its events and its steps; a refused one its refusal alone
 pub data Record : Type 0 where
   accepted : PredicateTransducerExecution → List CompiledMmioEvent → List PredicateControlStep → Record
   refused : RecordRefusal → Record
 
--- what each body holds as numbers, and back
+-- the numbers of each body, and what is made from them
 abbrev pub executionValues : PredicateTransducerExecution → List ℕ
 executionValues e =
     e .«first_input» ∷ e .«lane_count» ∷ e .«return_value» ∷ e .«symbolic_transitions»
     ∷ e .«lane_value_operations» ∷ e .«sparse_memory_bytes» ∷ e .«event_count» ∷ []
 
-abbrev pub executionOf : List ℕ → PredicateTransducerExecution
-executionOf vs =
+abbrev pub executionFrom : List ℕ → PredicateTransducerExecution
+executionFrom vs =
     record {
       «first_input» = getD vs 0 0;
       «lane_count» = getD vs 1 0;
@@ -66,14 +66,14 @@ executionOf vs =
 abbrev pub eventValues : CompiledMmioEvent → List ℕ
 eventValues e = e .operation ∷ e .offset ∷ e .value ∷ e .location ∷ []
 
-abbrev pub eventOf : List ℕ → CompiledMmioEvent
-eventOf vs = record { operation = getD vs 0 0; offset = getD vs 1 0; value = getD vs 2 0; location = getD vs 3 0 }
+abbrev pub eventFrom : List ℕ → CompiledMmioEvent
+eventFrom vs = record { operation = getD vs 0 0; offset = getD vs 1 0; value = getD vs 2 0; location = getD vs 3 0 }
 
 abbrev pub refusalValues : RecordRefusal → List ℕ
 refusalValues f = f .number ∷ f .role ∷ f .steps ∷ []
 
-abbrev pub refusalOf : List ℕ → RecordRefusal
-refusalOf vs = record { number = getD vs 0 0; role = getD vs 1 0; steps = getD vs 2 0 }
+abbrev pub refusalFrom : List ℕ → RecordRefusal
+refusalFrom vs = record { number = getD vs 0 0; role = getD vs 1 0; steps = getD vs 2 0 }
 
 -- the record's bytes
 abbrev pub encode : Record → List ℕ

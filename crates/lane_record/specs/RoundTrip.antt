@@ -1,4 +1,4 @@
--- The record both ways (document 01, "Record"), stated of what the writer and the reader answer and leave.
+-- The record both ways (Record), stated of what the writer and the reader answer and leave.
 use mathlib.Core.Path.{_≡_}
 use mathlib.Core.List.{List, [], map}
 use Prim.Native.Nat.{ℕ, _*_, _≤_}
@@ -13,16 +13,16 @@ use Rattle.lane_record.specs.declared.RecordAnswer.the-variants as answe
 use Rattle.lane_record.specs.declared.RecordOutcome.{RecordOutcome}
 use Rattle.predicate_semantics.specs.Trace.{entryBytes}
 use Rattle.lane_record.specs.Format.{heading, event, refusal, widths, executionValues, eventValues, refusalValues}
-use Rattle.lane_record.specs.Decode.{decode}
+use Rattle.lane_record.specs.Decode.{decodeRecord}
 use Rattle.lane_record.specs.Answers.{done, wrote, refusedOutcome, acceptedOutcome, readAnswer, readOutcome, readTrace, given, writeAnswer, writeOutput}
 
 -- what counts of an outcome: the first `event_count` events; after a refusal the answer alone
-abbrev pub countedBy : RecordAnswer → PredicateTransducerExecution → List CompiledMmioEvent → RecordOutcome
-countedBy answer.Accepted e es = acceptedOutcome e (take (e .«event_count») es)
-countedBy (answer.Refused f) e es = refusedOutcome f
+abbrev pub whatCountsBy : RecordAnswer → PredicateTransducerExecution → List CompiledMmioEvent → RecordOutcome
+whatCountsBy answer.Accepted e es = acceptedOutcome e (take (e .«event_count») es)
+whatCountsBy (answer.Refused f) e es = refusedOutcome f
 
-abbrev pub counted : RecordOutcome → RecordOutcome
-counted o = countedBy (o .answer) (o .execution) (o .events)
+abbrev pub whatCounts : RecordOutcome → RecordOutcome
+whatCounts o = whatCountsBy (o .answer) (o .execution) (o .events)
 
 -- what counts of the trace beside it: an entry for each step; after a refusal none
 abbrev pub entriesBy : RecordAnswer → PredicateTransducerExecution → List ℕ → List ℕ
@@ -49,15 +49,15 @@ ReadBack =
     → (n : ℕ) → writeAnswer (given o t) (length out) ≡ wrote n
     → (t2 : List ℕ) → length (entries o t) ≤ length t2
     → let bytes = take n (writeOutput (given o t) out) in
-    (readAnswer (decode bytes) (length t2) ≡ done)
-    × (readOutcome (decode bytes) (length t2) ≡ counted o)
-    × (readTrace (decode bytes) t2 ≡ over (entries o t) t2)
+    (readAnswer (decodeRecord bytes) (length t2) ≡ done)
+    × (readOutcome (decodeRecord bytes) (length t2) ≡ whatCounts o)
+    × (readTrace (decodeRecord bytes) t2 ≡ over (entries o t) t2)
 
 -- A record is rewritten byte for byte: whatever bytes the reader takes, an accepted or a refused run's, the writer makes again of what
 -- the reader gave and left in the trace, in any output with room for them; the output past them is untouched.
 abbrev pub Rewritten : Type 0
 Rewritten =
-    (bytes t : List ℕ) → AllBytes bytes → readAnswer (decode bytes) (length t) ≡ done
+    (bytes t : List ℕ) → AllBytes bytes → readAnswer (decodeRecord bytes) (length t) ≡ done
     → (out : List ℕ) → length bytes ≤ length out
-    → let again = given (readOutcome (decode bytes) (length t)) (readTrace (decode bytes) t) in
+    → let again = given (readOutcome (decodeRecord bytes) (length t)) (readTrace (decodeRecord bytes) t) in
     (writeAnswer again (length out) ≡ wrote (length bytes)) × (writeOutput again out ≡ over bytes out)

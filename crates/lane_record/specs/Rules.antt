@@ -1,4 +1,4 @@
--- The record's rules (document 01, "Record"): the one definition that its writer and its reader cite.
+-- The record's rules (Record): the one definition that its writer and its reader cite.
 use mathlib.Core.Bool.{Bool, true, cond, _&&_, _||_}
 use mathlib.Core.List.{List, [], _∷_}
 use Prim.Native.Nat.{ℕ, _-_, _*_}
@@ -12,7 +12,7 @@ use Rattle.predicate_semantics.specs.Program.{stop, maxEvents}
 use Rattle.lane_record.specs.declared.RecordRefusal.{RecordRefusal}
 use Rattle.lane_record.specs.Format.{Record, accepted, refused}
 
--- "low to high"
+-- from low to high, both of them too
 abbrev pub within : ℕ → ℕ → ℕ → Bool
 within low x high = leb low x && leb x high
 
@@ -20,11 +20,11 @@ within low x high = leb low x && leb x high
 abbrev pub minWrittenBytes : ℕ
 minWrittenBytes = 4
 
--- the most, 2,097,151: all of memory but the image, which is never written and has a byte at least
+-- the most: all of memory but the image, which is never written and has a byte at least
 abbrev pub maxWrittenBytes : ℕ
 maxWrittenBytes = maxMemoryBytes - 1
 
--- 6, 250, steps 1 to 1,000,000, lane operations 250 × steps, written bytes 4 to 2,097,151, at most 32 events
+-- the numbers of the heading, each against what a run of the lanes can give
 abbrev pub executionValid : PredicateTransducerExecution → Bool
 executionValid e =
     eqb (e .«first_input») firstInput
@@ -34,7 +34,7 @@ executionValid e =
     && within minWrittenBytes (e .«sparse_memory_bytes») maxWrittenBytes
     && leb (e .«event_count») maxEvents
 
--- a step of length 2 or 4 that names the counter c as the next
+-- a step that has an instruction's length, and leads to the counter c
 abbrev pub link : PredicateControlStep → ℕ → Bool
 link s c = (eqb (s .«instruction_bytes») 2 || eqb (s .«instruction_bytes») 4) && eqb (s .«next_program_counter») c
 
@@ -43,18 +43,25 @@ abbrev pub begins : ℕ → List PredicateControlStep → ℕ
 begins end [] = end
 begins end (s ∷ ss) = s .«program_counter»
 
--- each next counter equal to the following counter, the last equal to end
+-- every step leads to the one after it, and the last to end
 abbrev pub linked : ℕ → List PredicateControlStep → Bool
 linked end [] = true
 linked end (s ∷ ss) = link s (begins end ss) && linked end ss
 
--- a role of 1 to 10 for refusals 6 and 7, else 0
-abbrev pub roleValid : ℕ → ℕ → Bool
-roleValid number role = cond (eqb number 6 || eqb number 7) (within 1 role 10) (eqb role 0)
+-- Who causes a refusal: the last of the roles, and the last of the refusals that a run gives
+abbrev pub lastRole : ℕ
+lastRole = 10
 
--- refusal 1 to 14, its role, completed steps at most 1,000,000
+abbrev pub lastRefusal : ℕ
+lastRefusal = 14
+
+-- of the refusals only 6 and 7 have a role
+abbrev pub roleValid : ℕ → ℕ → Bool
+roleValid number role = cond (eqb number 6 || eqb number 7) (within 1 role lastRole) (eqb role 0)
+
+-- a refusal that a run gives, its role, and no more steps than a run takes
 abbrev pub refusalValid : RecordRefusal → Bool
-refusalValid f = within 1 (f .number) 14 && roleValid (f .number) (f .role) && leb (f .steps) maxSteps
+refusalValid f = within 1 (f .number) lastRefusal && roleValid (f .number) (f .role) && leb (f .steps) maxSteps
 
 -- the rules, all of them; the first item says how many events and steps there are
 abbrev pub valid : Record → Bool

@@ -17,7 +17,7 @@ use Rattle.lane_record.specs.Format.{Record, accepted, refused}
 use Rattle.lane_record.specs.Answers.{refusedOutcome, acceptedOutcome, given}
 
 module _ (image : List ℕ) (symbols : Rv32SymbolLayout) (rows entries : ℕ) where
-  -- "number, role (else 0) and completed steps"
+  -- a refusal with the steps that were completed before it
   abbrev pub refusalIn : LaneState → Refusal.Refusal → RecordRefusal
   refusalIn s q = record { number = q .number; role = q .role; steps = s .steps }
 
@@ -31,7 +31,7 @@ module _ (image : List ℕ) (symbols : Rv32SymbolLayout) (rows entries : ℕ) wh
   outcomeIn s (passed r) = acceptedOutcome (execution (standing image symbols) (setup rows entries) s r) (r .events)
   outcomeIn s (Refusal.refused q) = refusedOutcome (refusalIn s q)
 
-  -- "a result handed to the writer" of a lane run, with the trace that the run leaves, is the run's record: never 15
+  -- what a lane run gives the writer, with the trace that it leaves, is its record: the writer never answers 15
   abbrev pub KeepsRules : Type 0
   KeepsRules =
       (t : List ℕ)

@@ -13,9 +13,9 @@ ghost use mathlib.Core.Path.{_≡_};
 ghost use Prim.Native.Nat.{_+_, _≤_};
 ghost use lib.ListN.{length, drop};
 ghost use lib.Seq.{sets};
-ghost use Rattle.little_endian.specs.Pack.{total, pack, unpack, Fits};
-ghost use Rattle.predicate_semantics.specs.Trace.{entryBytes, stepWidths, stepValues, stepOf};
-ghost use Rattle.lane_record.specs.Format.{heading, event, refusal, widths, size, item, executionValues, eventValues, eventOf, refusalValues};
+ghost use Rattle.little_endian.specs.Pack.{total, unpack, Fits};
+ghost use Rattle.predicate_semantics.specs.Trace.{entryBytes, stepWidths, stepOf};
+ghost use Rattle.lane_record.specs.Format.{heading, event, refusal, widths, size, item, executionValues, eventValues, eventFrom, refusalValues};
 ghost use Rattle.lane_record.specs.Decode.{executionAt, refusalAt};
 
 // The bytes of kind.
@@ -64,7 +64,7 @@ pub fn refusal_at(s: &[u8]) -> RecordRefusal
 
 pub fn event_at(s: &[u8], at: usize) -> CompiledMmioEvent
     requires { ⌜ at + total (widths event) ≤ length (now s) ⌝ }
-    ensures { λ r. ⌜ r ≡ eventOf (unpack (widths event) (drop at (now (s .entry)))) ⌝ }
+    ensures { λ r. ⌜ r ≡ eventFrom (unpack (widths event) (drop at (now (s .entry)))) ⌝ }
 {
     CompiledMmioEvent {
         operation: get_u32(s, at),

@@ -4,12 +4,17 @@ mod reader;
 mod rules;
 mod writer;
 
+pub use items::ENTRY_BYTES;
+pub use items::EVENT;
 pub use items::EVENT_BYTES;
+pub use items::HEADING;
 pub use items::HEADING_BYTES;
+pub use items::REFUSAL_BYTES;
+pub use items::STEP;
 pub use items::STEP_BYTES;
 use predicate_semantics::CompiledMmioEvent;
 use predicate_semantics::PredicateTransducerExecution;
-ghost use Rattle.lane_record.specs.Decode.{decode};
+ghost use Rattle.lane_record.specs.Decode.{decodeRecord};
 ghost use Rattle.lane_record.specs.Answers.{Reads, Exact, Writes, given};
 
 // The most events of a record.
@@ -56,7 +61,7 @@ pub enum WriteAnswer {
 }
 
 pub fn read_record(bytes: &[u8], trace: &mut [u8]) -> RecordReading
-    ensures { λ r. ⌜ Reads (decode (now (bytes .entry))) (now (trace .entry)) r (now (trace .exit)) × Exact (now (bytes .entry)) ⌝ }
+    ensures { λ r. ⌜ Reads (decodeRecord (now (bytes .entry))) (now (trace .entry)) r (now (trace .exit)) × Exact (now (bytes .entry)) ⌝ }
 {
     if little_endian::get_u8(bytes, 0) == items::REFUSAL {
         return reader::read_refused(bytes);

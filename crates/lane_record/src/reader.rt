@@ -17,7 +17,7 @@ use super::items::event_at;
 use super::items::execution_at;
 use super::items::refusal_at;
 use super::items::step_at;
-use super::rules::and;
+use super::rules::both_hold;
 use super::rules::execution_valid;
 use super::rules::refusal_valid;
 use super::rules::steps_linked;
@@ -35,13 +35,13 @@ ghost use Rattle.predicate_semantics.specs.Trace.{entryBytes, traceBytes, steps
 ghost use Rattle.lane_record.specs.Format.{heading, event, step, size};
 ghost use Rattle.predicate_semantics.specs.Program.{maxEvents};
 ghost use Rattle.lane_record.specs.Rules.{valid};
-ghost use Rattle.lane_record.specs.Decode.{executionAt, eventsAt, acceptedAt, acceptedForm, acceptedIn, refusedIn, marks};
-ghost use Rattle.lane_record.specs.Answers.{refusedReading, noReading, Reads};
+ghost use Rattle.lane_record.specs.Decode.{executionAt, eventsAt, acceptedAt, acceptedForm, acceptedIn, refusedIn, kindsAre};
+ghost use Rattle.lane_record.specs.Answers.{refusedReading, nothingRead, Reads};
 
 // n bytes, each z from the one before, are all kind.
 fn kinds_are(s: &[u8], from: usize, kind: u8, z: usize, n: usize) -> bool
     requires { ⌜ (0 < z) × (from + n * z ≤ length (now s)) ⌝ }
-    ensures { λ r. ⌜ r ≡ marks kind z n (drop from (now (s .entry))) ⌝ }
+    ensures { λ r. ⌜ r ≡ kindsAre kind z n (drop from (now (s .entry))) ⌝ }
 {
     let mut at = from;
     let mut left = n;
@@ -66,14 +66,14 @@ fn accepted_form(s: &[u8], e: PredicateTransducerExecution) -> bool
         return false;
     }
     let headed = little_endian::get_u8(s, 0) == HEADING;
-    let listed = and(
+    let listed = both_hold(
         headed,
         kinds_are(s, HEADING_BYTES, EVENT, EVENT_BYTES, events),
     );
-    let formed = and(listed, kinds_are(s, from, STEP, STEP_BYTES, steps));
-    and(
+    let formed = both_hold(listed, kinds_are(s, from, STEP, STEP_BYTES, steps));
+    both_hold(
         formed,
-        and(execution_valid(e), steps_linked(s, from, 1, steps)),
+        both_hold(execution_valid(e), steps_linked(s, from, 1, steps)),
     )
 }
 
@@ -145,8 +145,8 @@ fn refused_reading(answer: ReadAnswer, f: RecordRefusal) -> RecordReading
     }
 }
 
-fn no_reading(answer: ReadAnswer) -> RecordReading
-    ensures { λ r. ⌜ r ≡ noReading answer ⌝ }
+fn nothing_read(answer: ReadAnswer) -> RecordReading
+    ensures { λ r. ⌜ r ≡ nothingRead answer ⌝ }
 {
     refused_reading(
         answer,
@@ -174,11 +174,11 @@ pub fn read_refused(bytes: &[u8]) -> RecordReading
     ensures { λ r. ⌜ ((t : List ℕ) → Reads (refusedIn (now (bytes .entry))) t r t) ⌝ }
 {
     if bytes.len() != REFUSAL_BYTES {
-        return no_reading(ReadAnswer::RulesBroken);
+        return nothing_read(ReadAnswer::RulesBroken);
     }
     let refusal = refusal_at(bytes);
     if !refusal_valid(refusal) {
-        return no_reading(ReadAnswer::RulesBroken);
+        return nothing_read(ReadAnswer::RulesBroken);
     }
     refused_reading(ReadAnswer::Read, refusal)
 }
@@ -191,8 +191,8 @@ pub fn read_accepted(bytes: &[u8], trace: &mut [u8]) -> RecordReading
     let steps = execution.symbolic_transitions as usize;
     let formed = accepted_form(bytes, execution);
     let room = steps * ENTRY_BYTES <= trace.len();
-    if !and(formed, room) {
-        return no_reading(refusal_of(formed));
+    if !both_hold(formed, room) {
+        return nothing_read(refusal_of(formed));
     }
     take_steps(trace, bytes, HEADING_BYTES + events * EVENT_BYTES, steps);
     let list = take_events(bytes, events);

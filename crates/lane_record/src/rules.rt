@@ -23,8 +23,13 @@ const MIN_WRITTEN_BYTES: u32 = 4;
 
 const MAX_WRITTEN_BYTES: u32 = riscv32imc::MAX_RV32_MEMORY_BYTES as u32 - 1;
 
+// The last of the roles, and of the refusals that a run gives.
+const LAST_ROLE: u32 = 10;
+
+const LAST_REFUSAL: u32 = 14;
+
 // Called where an operator would part a function's one answer into several ways to prove.
-pub fn and(a: bool, b: bool) -> bool
+pub fn both_hold(a: bool, b: bool) -> bool
     ensures { λ r. ⌜ r ≡ (a && b) ⌝ }
 {
     a && b
@@ -36,7 +41,7 @@ fn either(a: bool, b: bool) -> bool
     a || b
 }
 
-fn choose(test: bool, a: bool, b: bool) -> bool
+fn select(test: bool, a: bool, b: bool) -> bool
     ensures { λ r. ⌜ r ≡ cond test a b ⌝ }
 {
     if test { a } else { b }
@@ -45,24 +50,24 @@ fn choose(test: bool, a: bool, b: bool) -> bool
 fn within(low: u32, x: u32, high: u32) -> bool
     ensures { λ r. ⌜ r ≡ rules.within low x high ⌝ }
 {
-    and(low <= x, x <= high)
+    both_hold(low <= x, x <= high)
 }
 
 pub fn execution_valid(e: PredicateTransducerExecution) -> bool
     ensures { λ r. ⌜ r ≡ rules.executionValid e ⌝ }
 {
     let steps = e.symbolic_transitions;
-    let inputs = and(
+    let inputs = both_hold(
         e.first_input == LaneWord::FIRST_INPUT,
         e.lane_count as usize == LaneWord::LANES,
     );
-    let bounded = and(inputs, within(1, steps, MAX_STEPS));
-    let counted = and(
+    let bounded = both_hold(inputs, within(1, steps, MAX_STEPS));
+    let counted = both_hold(
         bounded,
         e.lane_value_operations as u64 == (LaneWord::LANES as u64) * (steps as u64),
     );
-    and(
-        and(
+    both_hold(
+        both_hold(
             counted,
             within(MIN_WRITTEN_BYTES, e.sparse_memory_bytes, MAX_WRITTEN_BYTES),
         ),
@@ -73,9 +78,9 @@ pub fn execution_valid(e: PredicateTransducerExecution) -> bool
 fn role_valid(number: u8, role: u8) -> bool
     ensures { λ r. ⌜ r ≡ rules.roleValid number role ⌝ }
 {
-    choose(
+    select(
         either(number == 6, number == 7),
-        within(1, role as u32, 10),
+        within(1, role as u32, LAST_ROLE),
         role == 0,
     )
 }
@@ -83,8 +88,11 @@ fn role_valid(number: u8, role: u8) -> bool
 pub fn refusal_valid(f: RecordRefusal) -> bool
     ensures { λ r. ⌜ r ≡ rules.refusalValid f ⌝ }
 {
-    and(
-        and(within(1, f.number as u32, 14), role_valid(f.number, f.role)),
+    both_hold(
+        both_hold(
+            within(1, f.number as u32, LAST_REFUSAL),
+            role_valid(f.number, f.role),
+        ),
         f.steps <= MAX_STEPS,
     )
 }
@@ -92,7 +100,7 @@ pub fn refusal_valid(f: RecordRefusal) -> bool
 fn links(step: PredicateControlStep, next: u32) -> bool
     ensures { λ r. ⌜ r ≡ rules.link step next ⌝ }
 {
-    and(
+    both_hold(
         either(step.instruction_bytes == 2, step.instruction_bytes == 4),
         step.next_program_counter == next,
     )
@@ -104,7 +112,7 @@ fn begins_at(s: &[u8], from: usize, p: usize, n: usize) -> u32
     ensures { λ r. ⌜ r ≡ rules.begins stop (stepsAt p n (drop from (now (s .entry)))) ⌝ }
 {
     if 0 < n {
-        little_endian::get_u32(s, from + p)
+        step_at(s, from + p).program_counter
     } else {
         STOP
     }

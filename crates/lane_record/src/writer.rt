@@ -12,7 +12,7 @@ use super::items::put_event;
 use super::items::put_execution;
 use super::items::put_refusal;
 use super::items::step_at;
-use super::rules::and;
+use super::rules::both_hold;
 use super::rules::execution_valid;
 use super::rules::refusal_valid;
 use super::rules::steps_linked;
@@ -71,7 +71,7 @@ fn writable(e: PredicateTransducerExecution, trace: &[u8]) -> bool
     if trace.len() < steps * ENTRY_BYTES {
         return false;
     }
-    and(execution_valid(e), steps_linked(trace, 0, 0, steps))
+    both_hold(execution_valid(e), steps_linked(trace, 0, 0, steps))
 }
 
 pub fn write_accepted(

@@ -29,15 +29,15 @@ accepted-form-spec =
     (λ c.
     let d = c .before in let l = d .before in let v = l .before in let b = v .before in let k = b .before in let a = k .before in
     let e = a .before in let g = e .before in let t = g .before in let s = t .before .before .before .before .args in
-    c .and4 .ensures
+    c .both-hold4 .ensures
     ∙ rw (
-      b .and2 .ensures,
-      a .and .ensures,
+      b .both-hold2 .ensures,
+      a .both-hold .ensures,
       g .get-u8 .ensures,
       value-one (now (s .s)) 0,
       e .kinds-are .ensures,
       k .kinds-are2 .ensures,
-      d .and3 .ensures,
+      d .both-hold3 .ensures,
       v .execution-valid .ensures,
       l .steps-linked .ensures,
     )

@@ -14,7 +14,7 @@ use Rattle.lane_record.specs.declared.RecordReading.{RecordReading}
 use Rattle.predicate_semantics.specs.Trace.{entryBytes}
 use Rattle.lane_record.specs.Rules.{valid}
 use Rattle.lane_record.specs.Decode.{acceptedForm, acceptedAt, acceptedIn}
-use Rattle.lane_record.specs.Answers.{noReading, Reads}
+use Rattle.lane_record.specs.Answers.{nothingRead, Reads}
 use Rattle.lane_record.proofs.TestLaws.{both}
 use Rattle.lane_record.proofs.AnswerLaws.{exact-length, events-fit, reads-not, reads-done}
 use Rattle.lane_record.proofs.reader.read_accepted.Statement.{statement}
@@ -27,7 +27,7 @@ passes : (c : tie.Else1) → let x = c .before .before .before .before .before i
 passes c =
     let n = c .before in let f = n .before in let x = f .before .before .before in
     let room = leb (x .execution-at .result .«symbolic_transitions» * entryBytes) (length (now (x .before .before .before .args .trace))) in
-    let b = both (f .accepted-form .result) room (sym (n .and .ensures) ∙ not-false (n .and .result) (c .if1 .left)) in
+    let b = both (f .accepted-form .result) room (sym (n .both-hold .ensures) ∙ not-false (n .both-hold .result) (c .if1 .left)) in
     (sym (f .accepted-form .ensures) ∙ b .0, leb-true _ _ (b .1))
 
 pub read-accepted-spec : {M : Type 1} → statement M
@@ -45,10 +45,10 @@ read-accepted-spec =
     (λ c.
     let u = c .before in let n = u .before .before in let f = n .before in let x = f .before .before .before in let a = x .before .before .before .args in
     let bs = now (a .bytes) in let t = now (a .trace) in
-    subst (λ (e : PredicateTransducerExecution). Reads (acceptedIn e bs) t (c .no-reading .result) t) (x .execution-at .ensures)
+    subst (λ (e : PredicateTransducerExecution). Reads (acceptedIn e bs) t (c .nothing-read .result) t) (x .execution-at .ensures)
     (reads-not (x .execution-at .result) bs t (f .accepted-form .result) (sym (f .accepted-form .ensures))
-    (sym (n .and .ensures) ∙ not-true (n .and .result) (u .before .if1 .taken))
-    (c .no-reading .ensures ∙ ap noReading (u .refusal-of .ensures))))
+    (sym (n .both-hold .ensures) ∙ not-true (n .both-hold .result) (u .before .if1 .taken))
+    (c .nothing-read .ensures ∙ ap nothingRead (u .refusal-of .ensures))))
     (λ c. search needs)
     (λ c. search needs)
     (λ c κs.
@@ -63,4 +63,4 @@ read-accepted-spec =
     let bs = now (a .bytes) in let t = now (a .trace) in
     let r : RecordReading = record { answer = read.Read; outcome = record { answer = answer.Accepted; execution = x .execution-at .result; events = c .take-events .result } } in
     subst (λ (e : PredicateTransducerExecution). Reads (acceptedIn e bs) t r (s .take-steps .last .0)) (x .execution-at .ensures)
-    (reads-done (x .execution-at .result) bs (passes p .0) t (s .take-steps .last .0) (c .take-events .result) (passes p .1) (c .take-events .ensures) (s .take-steps .ensures))))
+    (reads-done (x .execution-at .result) bs (passes p .0) t (passes p .1) (c .take-events .ensures) (s .take-steps .ensures))))

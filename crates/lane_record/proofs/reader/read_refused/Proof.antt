@@ -12,7 +12,7 @@ read-refused-spec =
     tie.close
     (tie.spec
     (λ c κs. search needs)
-    (λ c t. let bs = now (c .before .before .before .args .bytes) in reads-broken (refusedIn bs) t (refused-long bs (c .before .if1 .taken)) (c .no-reading .ensures))
+    (λ c t. let bs = now (c .before .before .before .args .bytes) in reads-broken (refusedIn bs) t (refused-long bs (c .before .if1 .taken)) (c .nothing-read .ensures))
     (λ c κs. search needs)
     (λ c κs. search needs)
     (λ c κs. search needs)
@@ -20,7 +20,7 @@ read-refused-spec =
     let v = c .before .before in let a = v .before in let bs = now (a .before .before .before .args .bytes) in
     reads-broken (refusedIn bs) t
     (refused-out bs (a .refusal-at .result) (a .refusal-at .ensures) (sym (v .refusal-valid .ensures) ∙ not-true (v .refusal-valid .result) (c .before .if2 .taken)))
-    (c .no-reading2 .ensures))
+    (c .nothing-read2 .ensures))
     (λ c κs. search needs)
     (λ c t.
     let v = c .before .before in let a = v .before in let bs = now (a .before .before .before .args .bytes) in

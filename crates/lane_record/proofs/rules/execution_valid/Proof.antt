@@ -20,4 +20,4 @@ execution-valid-spec =
     (λ c κs. search needs)
     (λ c.
     let d = c .before .before in let w = d .before in let k = w .before in let b = k .before .before in let v = b .before in let a = v .before in
-    rw (c .and5 .ensures, d .and4 .ensures, k .and3 .ensures, b .and2 .ensures, a .and .ensures, v .within .ensures, w .within2 .ensures)))
+    rw (c .both-hold5 .ensures, d .both-hold4 .ensures, k .both-hold3 .ensures, b .both-hold2 .ensures, a .both-hold .ensures, v .within .ensures, w .within2 .ensures)))

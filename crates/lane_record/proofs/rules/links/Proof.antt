@@ -8,4 +8,4 @@ links-spec =
     (tie.spec
     (λ c κs. search needs)
     (λ c κs. search needs)
-    (λ c. rw (c .and .ensures, c .before .before .either .ensures)))
+    (λ c. rw (c .both-hold .ensures, c .before .before .either .ensures)))

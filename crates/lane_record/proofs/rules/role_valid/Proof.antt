@@ -9,4 +9,4 @@ role-valid-spec =
     (λ c κs. search needs)
     (λ c κs. search needs)
     (λ c κs. search needs)
-    (λ c. rw (c .choose .ensures, c .before .before .either .ensures, c .before .within .ensures)))
+    (λ c. rw (c .select .ensures, c .before .before .either .ensures, c .before .within .ensures)))

@@ -7,7 +7,7 @@ use lib.ListN.{length}
 use lib.Seq.{sets}
 use borrow.Author.Needs.{needs}
 use Rattle.predicate_semantics.specs.Trace.{stepValues, stepsAt}
-use Rattle.lane_record.specs.Format.{step, mark, items}
+use Rattle.lane_record.specs.Format.{step, kindByte, items}
 use Rattle.predicate_semantics.proofs.TraceLaws.{entry-inside}
 use Rattle.lane_record.proofs.LoopLaws.{Moving, moving-step, moving-exit}
 use Rattle.lane_record.proofs.writer.put_steps.Statement.{statement}
@@ -15,7 +15,7 @@ use Rattle.lane_record.proofs.writer.put_steps.Tie as tie
 
 abbrev Inv-loop : tie.InvT-loop
 Inv-loop s₀ to trace n left₀ at₀ from₀ s left at from =
-    Moving (mark step ∷ []) 0 trace (sets s₀ to (items step (map stepValues (stepsAt 0 n trace)))) (length s₀) s left at from
+    Moving (kindByte step ∷ []) 0 trace (sets s₀ to (items step (map stepValues (stepsAt 0 n trace)))) (length s₀) s left at from
 
 abbrev μ-loop : tie.MeasureT-loop
 μ-loop s₀ to trace n left₀ at₀ from₀ s left at from = left

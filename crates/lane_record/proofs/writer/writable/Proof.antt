@@ -15,4 +15,4 @@ writable-spec =
     (λ c κs. search needs)
     (λ c.
     let l = c .before in let v = l .before in
-    rw (le-leb _ _ (v .before .if1 .left), c .and .ensures, v .execution-valid .ensures, l .steps-linked .ensures)))
+    rw (le-leb _ _ (v .before .if1 .left), c .both-hold .ensures, v .execution-valid .ensures, l .steps-linked .ensures)))

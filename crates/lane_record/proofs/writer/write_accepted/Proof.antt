@@ -61,6 +61,7 @@ write-accepted-spec =
     let e = a .e in let l = a .list in let t = now (a .trace) in let out = now (a .output) in
     writes-done (givenAccepted e l t) out (acceptedGiven e l t)
     (given-in e l t (all-events w) (sym (w .writable .ensures) ∙ not-false (w .writable .result) (p .if1 .left)))
-    _ (passes p .long) (omega (arith, o .if2 .left, passes p .long)) (passes p .valid-record)
-    (fitting b, v .put-events .ensures .1, steps-fit 0 _ t (λ i. omega (arith, k .shared-slice-known .given i)) (passes p .enough))
-    (written e l t (all-events w) (passes p) out _ _ _ (o .if2 .left) (x .put-execution .ensures) (v .put-events .ensures .0) (s .put-steps .ensures))))
+    (passes p .long) (omega (arith, o .if2 .left, passes p .long))
+    (passes p .valid-record, (fitting b, v .put-events .ensures .1, steps-fit 0 _ t (λ i. omega (arith, k .shared-slice-known .given i)) (passes p .enough)))
+    (written e l t (all-events w) {out = out} (passes p) (o .if2 .left)
+    (record { headed = x .put-execution .ensures; listed = v .put-events .ensures .0; traced = s .put-steps .ensures }))))

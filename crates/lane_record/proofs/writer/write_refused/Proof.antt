@@ -5,7 +5,7 @@ use denote.Ref.{now}
 use borrow.Author.Needs.{needs}
 use borrow.Author.Tests.{not-true, not-false}
 use Rattle.little_endian.proofs.SetLaws.{sets-over}
-use Rattle.lane_record.specs.Format.{refusal, size, refused, encode, FitsRecord}
+use Rattle.lane_record.specs.Format.{refused, encode, FitsRecord}
 use Rattle.lane_record.specs.Decode.{ruled}
 use Rattle.lane_record.specs.Answers.{givenRefused}
 use Rattle.lane_record.proofs.AnswerLaws.{writes-broken, writes-full, writes-done}
@@ -34,5 +34,5 @@ write-refused-spec =
     (λ c.
     let p = c .before .before in let o = p .before .before in let v = o .before .before in let b = v .before .before in let a = b .args in
     let ok = sym (v .refusal-valid .ensures) ∙ not-false (v .refusal-valid .result) (o .before .if1 .left) in
-    writes-done (givenRefused (a .f)) (now (a .output)) (refused (a .f)) (ap (λ (w : Bool). ruled w (refused (a .f))) ok) (size refusal) refl (o .if2 .left) ok (fitting b)
+    writes-done (givenRefused (a .f)) (now (a .output)) (refused (a .f)) (ap (λ (w : Bool). ruled w (refused (a .f))) ok) refl (o .if2 .left) (ok, fitting b)
     (p .put-refusal .ensures ∙ sets-over (encode (refused (a .f))) (now (a .output)) (o .if2 .left))))
