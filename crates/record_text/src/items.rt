@@ -3,18 +3,26 @@ use super::line::Line;
 use super::line::new_line;
 use super::line::put;
 use super::line::put_byte;
+use super::line::put_choice;
 use super::line::put_digits;
 use super::line::put_hex;
 use super::line::put_number;
 use super::line::put_small;
 use super::line::say_line;
 use super::operations::put_instruction;
+use lane_record::EVENT;
+use lane_record::EVENT_BYTES;
+use lane_record::HEADING;
+use lane_record::HEADING_BYTES;
+use lane_record::REFUSAL_BYTES;
+use lane_record::STEP;
+use lane_record::STEP_BYTES;
 use little_endian::get_u8;
 use little_endian::get_u16;
 use little_endian::get_u32;
 ghost use Prim.Native.Nat.{_≤_};
 
-fn put_heading(line: &mut Line, at: usize, s: &[u8]) -> usize {
+fn put_heading_text(line: &mut Line, at: usize, s: &[u8]) -> usize {
     let place = put_number(line, at, b" accepted for ", get_u16(s, 2) as u32);
     let place = put_small(line, place, b" inputs from ", get_u8(s, 1));
     let place = put_number(line, place, b" on: return value ", get_u32(s, 4));
@@ -24,14 +32,14 @@ fn put_heading(line: &mut Line, at: usize, s: &[u8]) -> usize {
     put_small(line, place, b", events ", get_u8(s, 20))
 }
 
-fn put_event(line: &mut Line, at: usize, s: &[u8]) -> usize {
+fn put_event_text(line: &mut Line, at: usize, s: &[u8]) -> usize {
     let place = put_number(line, at, b" event: operation ", get_u32(s, 1));
     let place = put_hex(line, place, b", offset ", get_u32(s, 5));
     let place = put_hex(line, place, b", value ", get_u32(s, 9));
     put_hex(line, place, b", location ", get_u32(s, 13))
 }
 
-fn put_step(line: &mut Line, at: usize, s: &[u8]) -> usize {
+fn put_step_text(line: &mut Line, at: usize, s: &[u8]) -> usize {
     let pc = get_u32(s, 1);
     let place = put_hex(line, at, b" step: at ", pc);
     let place = put_hex(line, place, b", next ", get_u32(s, 10));
@@ -40,28 +48,25 @@ fn put_step(line: &mut Line, at: usize, s: &[u8]) -> usize {
     put_instruction(line, place, get_u32(s, 5), pc)
 }
 
-// What happened, in document 01's words.
+// What happened, by the refusal's number.
+const REASONS: [u8; 367] = *b"| image empty or too large\
+| a symbol outside memory\
+| not at stop after 1,000,000 steps\
+| address below memory\
+| access past the end of memory\
+| unknown\
+| not uniform\
+| halfword not accepted\
+| word not accepted\
+| jump target 0\
+| store below the image's end\
+| event count above 32 or unlike the number of recorded SWs\
+| distinct written bytes exceed the rows\
+| no trace entry left";
+
 fn put_reason(line: &mut Line, at: usize, number: u8) -> usize {
-    match number {
-        1 => put(line, at, b" image empty or too large"),
-        2 => put(line, at, b" a symbol outside memory"),
-        3 => put(line, at, b" not at stop after 1,000,000 steps"),
-        4 => put(line, at, b" address below memory"),
-        5 => put(line, at, b" access past the end of memory"),
-        6 => put(line, at, b" unknown"),
-        7 => put(line, at, b" not uniform"),
-        8 => put(line, at, b" halfword not accepted"),
-        9 => put(line, at, b" word not accepted"),
-        10 => put(line, at, b" jump target 0"),
-        11 => put(line, at, b" store below the image's end"),
-        12 => put(
-            line,
-            at,
-            b" event count above 32 or unlike the number of recorded SWs",
-        ),
-        13 => put(line, at, b" distinct written bytes exceed the rows"),
-        _ => put(line, at, b" no trace entry left"),
-    }
+    let texts = REASONS;
+    put_choice(line, at, &texts, number)
 }
 
 fn put_cause(line: &mut Line, at: usize, number: u8) -> usize {
@@ -75,23 +80,23 @@ fn put_cause(line: &mut Line, at: usize, number: u8) -> usize {
 }
 
 // Role 0 is none.
+const ROLES: [u8; 191] = *b"|, role 1 fetch\
+|, role 2 jump target\
+|, role 3 load address\
+|, role 4 store address\
+|, role 5 branch\
+|, role 6 return value\
+|, role 7 event count\
+|, role 8 operation\
+|, role 9 offset\
+|, role 10 value";
+
 fn put_role(line: &mut Line, at: usize, role: u8) -> usize {
-    match role {
-        0 => at,
-        1 => put(line, at, b", role 1 fetch"),
-        2 => put(line, at, b", role 2 jump target"),
-        3 => put(line, at, b", role 3 load address"),
-        4 => put(line, at, b", role 4 store address"),
-        5 => put(line, at, b", role 5 branch"),
-        6 => put(line, at, b", role 6 return value"),
-        7 => put(line, at, b", role 7 event count"),
-        8 => put(line, at, b", role 8 operation"),
-        9 => put(line, at, b", role 9 offset"),
-        _ => put(line, at, b", role 10 value"),
-    }
+    let texts = ROLES;
+    put_choice(line, at, &texts, role)
 }
 
-fn put_refusal(line: &mut Line, at: usize, s: &[u8]) -> usize {
+fn put_refusal_text(line: &mut Line, at: usize, s: &[u8]) -> usize {
     let number = get_u8(s, 1);
     let place = put_small(line, at, b" refused: ", number);
     let place = put_reason(line, place, number);
@@ -103,11 +108,14 @@ fn put_refusal(line: &mut Line, at: usize, s: &[u8]) -> usize {
 fn item_size(kind: u8) -> usize
     ensures { λ r. ⌜ 1 ≤ r ⌝ }
 {
-    match kind {
-        1 => 21,
-        2 => 17,
-        3 => 14,
-        _ => 7,
+    if kind == HEADING {
+        HEADING_BYTES
+    } else if kind == EVENT {
+        EVENT_BYTES
+    } else if kind == STEP {
+        STEP_BYTES
+    } else {
+        REFUSAL_BYTES
     }
 }
 
@@ -123,11 +131,15 @@ fn put_bytes(line: &mut Line, at: usize, s: &[u8]) -> usize {
 }
 
 fn put_meaning(line: &mut Line, at: usize, s: &[u8]) -> usize {
-    match get_u8(s, 0) {
-        1 => put_heading(line, at, s),
-        2 => put_event(line, at, s),
-        3 => put_step(line, at, s),
-        _ => put_refusal(line, at, s),
+    let kind = get_u8(s, 0);
+    if kind == HEADING {
+        put_heading_text(line, at, s)
+    } else if kind == EVENT {
+        put_event_text(line, at, s)
+    } else if kind == STEP {
+        put_step_text(line, at, s)
+    } else {
+        put_refusal_text(line, at, s)
     }
 }
 

@@ -1,4 +1,5 @@
 // A line of text in the making: each function puts something at a place, as far as the line has room, and gives the next place.
+ghost use Prim.Native.Nat.{_≤_};
 
 // The longest line, an accepted run's heading, has under 220 bytes.
 const LINE_BYTES: usize = 256;
@@ -33,6 +34,32 @@ pub fn put(line: &mut Line, at: usize, text: &[u8]) -> usize {
     let mut k = 0;
     while k < text.len() {
         place = put_byte(line, place, text[k]);
+        k += 1;
+    }
+    place
+}
+
+fn bars_in(byte: u8) -> usize
+    ensures { λ r. ⌜ r ≤ 1 ⌝ }
+{
+    if byte == b'|' { 1 } else { 0 }
+}
+
+fn put_chosen(line: &mut Line, at: usize, byte: u8, chosen: bool) -> usize {
+    if chosen && byte != b'|' {
+        return put_byte(line, at, byte);
+    }
+    at
+}
+
+// Of texts between bars the one after so many bars.
+pub fn put_choice(line: &mut Line, at: usize, texts: &[u8], number: u8) -> usize {
+    let mut place = at;
+    let mut bars = 0;
+    let mut k = 0;
+    while k < texts.len() {
+        place = put_chosen(line, place, texts[k], bars == number as usize);
+        bars += bars_in(texts[k]);
         k += 1;
     }
     place

@@ -7,11 +7,13 @@ mod operations;
 use items::say_items;
 use lane_record::ReadAnswer;
 
-// One byte more than is taken; the longest record of 4,096 steps has 57,909.
-const INPUT_BYTES: usize = 65_537;
+// The most steps of a record that is read here.
+const STEPS_READ: usize = 4_096;
 
-// 4,096 entries of 13 bytes.
-const TRACE_SPACE: usize = 53_248;
+const TRACE_SPACE: usize = STEPS_READ * lane_record::ENTRY_BYTES;
+
+// One byte more than is taken; the longest record of so many steps is shorter.
+const INPUT_BYTES: usize = 65_537;
 
 fn say(text: &[u8]) {
     io::write_all(1, text);

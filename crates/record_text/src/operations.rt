@@ -4,21 +4,65 @@ use super::line::put;
 use super::line::put_hex;
 use super::line::put_number;
 use super::line::put_signed;
-use predicate_action::Action;
-use riscv_decode::Decoded;
-use riscv_decode::Operation;
-use riscv_decode::operations::number;
+use riscv_decode::OPERATIONS;
+use riscv_decode::operands::b_type;
+use riscv_decode::operands::i_type;
+use riscv_decode::operands::j_type;
+use riscv_decode::operands::r_type;
+use riscv_decode::operands::s_type;
+use riscv_decode::operands::shift_type;
+use riscv_decode::operands::u_type;
+use riscv_decode::rows::find_standing_row;
+use std::num::wrapping_add_u32;
 
-// Eight letters each, in the order of the operations' numbers; the last, 44, stands first, so that a remainder finds its place.
-const NAMES: [u8; 352] =
-    *b"fence.i lui     auipc   jal     jalr    beq     bne     blt     bge     bltu    bgeu    lb      lh      lw      lbu     lhu     sb      sh      sw      addi    slti    sltiu   xori    ori     andi    slli    srli    srai    add     sub     sll     slt     sltu    xor     srl     sra     or      and     mul     div     divu    rem     remu    fence   ";
+// An operation's name in seven letters, then the letter of its operands.
+const SPELLING_BYTES: usize = 8;
 
-fn put_name(line: &mut Line, at: usize, n: u32) -> usize {
-    let names = NAMES;
-    let from = (n % 44) as usize * 8;
-    let end = from + 8;
-    put(line, at, &names[from..end])
-}
+// In the order of the operations' numbers; the last stands first, so that a remainder finds its place.
+const SPELLINGS: [u8; SPELLING_BYTES * OPERATIONS] = *b"fence.i \
+lui    u\
+auipc  p\
+jal    j\
+jalr   l\
+beq    b\
+bne    b\
+blt    b\
+bge    b\
+bltu   b\
+bgeu   b\
+lb     l\
+lh     l\
+lw     l\
+lbu    l\
+lhu    l\
+sb     s\
+sh     s\
+sw     s\
+addi   i\
+slti   i\
+sltiu  i\
+xori   i\
+ori    i\
+andi   i\
+slli   c\
+srli   c\
+srai   c\
+add    r\
+sub    r\
+sll    r\
+slt    r\
+sltu   r\
+xor    r\
+srl    r\
+sra    r\
+or     r\
+and    r\
+mul    r\
+div    r\
+divu   r\
+rem    r\
+remu   r\
+fence   ";
 
 fn put_word(line: &mut Line, at: usize, rd: u32, word: u32) -> usize {
     let place = put_number(line, at, b"x", rd);
@@ -50,50 +94,40 @@ fn put_address(line: &mut Line, at: usize, register: u32, rs1: u32, offset: u32)
     put(line, place, b")")
 }
 
-fn put_action(line: &mut Line, at: usize, action: Action) -> usize {
-    match action {
-        Action::Nothing => at,
-        Action::Literal { rd, value } => put_word(line, at, rd, value),
-        Action::Compute { rd, rs1, rs2, .. } => put_registers(line, at, rd, rs1, rs2),
-        Action::ComputeImmediate {
-            rd,
-            rs1,
-            immediate,
-            ..
-        } => put_immediate(line, at, rd, rs1, immediate),
-        Action::Jump { rd, target } => put_word(line, at, rd, target),
-        Action::JumpTo { rd, rs1, offset } => put_address(line, at, rd, rs1, offset),
-        Action::Branch {
-            rs1,
-            rs2,
-            target,
-            ..
-        } => put_branch(line, at, rs1, rs2, target),
-        Action::Load {
-            rd,
-            rs1,
-            offset,
-            ..
-        } => put_address(line, at, rd, rs1, offset),
-        Action::Store {
-            rs1,
-            rs2,
-            offset,
-            ..
-        } => put_address(line, at, rs2, rs1, offset),
+// By the letter: u a word, p and j one from the program counter on, b branch, l load and JALR, s store, i immediate, c shift by a
+// constant, r registers.
+fn put_operands(line: &mut Line, at: usize, letter: u8, word: u32, pc: u32) -> usize {
+    let u = u_type(word);
+    let j = j_type(word);
+    let b = b_type(word);
+    let i = i_type(word);
+    let s = s_type(word);
+    let c = shift_type(word);
+    let r = r_type(word);
+    match letter {
+        b'u' => put_word(line, at, u.rd, u.imm),
+        b'p' => put_word(line, at, u.rd, wrapping_add_u32(pc, u.imm)),
+        b'j' => put_word(line, at, j.rd, wrapping_add_u32(pc, j.imm)),
+        b'b' => put_branch(line, at, b.rs1, b.rs2, wrapping_add_u32(pc, b.imm)),
+        b'l' => put_address(line, at, i.rd, i.rs1, i.imm),
+        b's' => put_address(line, at, s.rs2, s.rs1, s.imm),
+        b'i' => put_immediate(line, at, i.rd, i.rs1, i.imm),
+        b'c' => put_immediate(line, at, c.rd, c.rs1, c.shamt),
+        b'r' => put_registers(line, at, r.rd, r.rs1, r.rs2),
+        _ => at,
     }
-}
-
-fn put_operation(line: &mut Line, at: usize, operation: Operation, pc: u32) -> usize {
-    let place = put_name(line, at, number(operation));
-    put_action(line, place, predicate_action::action_of(operation, pc))
 }
 
 // The reader takes any word in a step; a run's record has only accepted ones.
 pub fn put_instruction(line: &mut Line, at: usize, word: u32, pc: u32) -> usize {
-    let decoded = riscv_decode::decode(word);
-    match decoded {
-        Decoded::Known(operation) => put_operation(line, at, operation, pc),
-        Decoded::Refused => put_hex(line, at, b"no accepted word: ", word),
+    let number = find_standing_row(word) as usize;
+    if number == 0 {
+        return put_hex(line, at, b"no accepted word: ", word);
     }
+    let spellings = SPELLINGS;
+    let from = number % OPERATIONS * SPELLING_BYTES;
+    let end = from + SPELLING_BYTES - 1;
+    let place = put(line, at, &spellings[from..end]);
+    let place = put(line, place, b" ");
+    put_operands(line, place, spellings[end], word, pc)
 }

@@ -14,7 +14,7 @@ use lib.ListN.{length, getD}
 use mir.Facts.{yes-eqb}
 use Rattle.riscv_decode.specs.declared.Row.{Row}
 use Rattle.riscv_decode.specs.Listing.{operationCount, listing, fixed}
-use Rattle.riscv_decode.specs.Rows.{rowMask, rowMatch, rowNumber, noRow, matches, findRow, apart, apartFrom, allApart, maskOf, matchOf, rowsFrom, standing, Stands}
+use Rattle.riscv_decode.specs.Rows.{rowMask, rowMatch, rowNumber, noRow, matches, findRow, apart, apartFrom, allApart, maskOf, matchOf, rowsFrom, standingRows, Stands}
 use Rattle.riscv_decode.specs.Statements.{StandingApart, OneRow}
 
 and-odd : (a b : ℕ) → bitAnd a b % 2 ≡ min (a % 2) (b % 2)
@@ -52,14 +52,14 @@ from r (s ∷ rs) t zero h = and-l (apart r s) (apartFrom r rs) t
 from r (s ∷ rs) t (suc k) h = from r rs (and-r (apart r s) (apartFrom r rs) t) k (le-of-suc-le-suc h)
 
 -- no word matches two rows
-pub one-row : (t : List Row) → T (allApart t) → (i j w : ℕ) → i < j → j < length t → T (matches (getD t i noRow) w) → T (matches (getD t j noRow) w) → ⊥
+pub one-row : (t : List Row) → T (allApart t) → (i j w : ℕ) → (i < j) × (j < length t) → T (matches (getD t i noRow) w) → T (matches (getD t j noRow) w) → ⊥
 unfolding allApart
-one-row [] t i j w l h p q = absurd (not-suc-le-zero h)
-one-row (r ∷ rs) t i zero w l h p q = absurd (not-suc-le-zero l)
-one-row (r ∷ rs) t zero (suc j) w l h p q =
-    not-both r (getD rs j noRow) w (from r rs (and-l (apartFrom r rs) (allApart rs) t) j (le-of-suc-le-suc h)) p q
-one-row (r ∷ rs) t (suc i) (suc j) w l h p q =
-    one-row rs (and-r (apartFrom r rs) (allApart rs) t) i j w (le-of-suc-le-suc l) (le-of-suc-le-suc h) p q
+one-row [] t i j w h p q = absurd (not-suc-le-zero (h .1))
+one-row (r ∷ rs) t i zero w h p q = absurd (not-suc-le-zero (h .0))
+one-row (r ∷ rs) t zero (suc j) w h p q =
+    not-both r (getD rs j noRow) w (from r rs (and-l (apartFrom r rs) (allApart rs) t) j (le-of-suc-le-suc (h .1))) p q
+one-row (r ∷ rs) t (suc i) (suc j) w h p q =
+    one-row rs (and-r (apartFrom r rs) (allApart rs) t) i j w (le-of-suc-le-suc (h .0), le-of-suc-le-suc (h .1)) p q
 
 -- so a word that matches a row is found by that row's number, wherever the row stands
 pub found : (t : List Row) → T (allApart t) → (i w : ℕ) → i < length t → T (matches (getD t i noRow) w) → findRow t w ≡ rowNumber (getD t i noRow)
@@ -80,19 +80,19 @@ beside r (s ∷ rs) w t p =
     rw (ne-eqb _ _ n) (beside r rs w (and-r (apart r s) (apartFrom r rs) t) p)
 
 pub standing-apart : StandingApart
-unfolding allApart apartFrom standing rowsFrom listing fixed maskOf matchOf
+unfolding allApart apartFrom standingRows rowsFrom listing fixed maskOf matchOf
 standing-apart = tt
 
 pub standing-one : OneRow
-standing-one = one-row standing standing-apart
+standing-one i j w l h = one-row standingRows standing-apart i j w (l, h)
 
 -- row i stands
-pub stands : (i : ℕ) → T (ltb i operationCount) → Stands (getD standing i noRow)
-unfolding standing rowsFrom listing
+pub stands : (i : ℕ) → T (ltb i operationCount) → Stands (getD standingRows i noRow)
+unfolding standingRows rowsFrom listing
 stands i t = (i, ltb→lt i operationCount t, refl)
 
 -- a word that matches a row that stands is found by that row's number
-pub by-row : (r : Row) (w : ℕ) → Stands r → matches r w ≡ true → rowNumber r ≡ findRow standing w
+pub by-row : (r : Row) (w : ℕ) → Stands r → matches r w ≡ true → rowNumber r ≡ findRow standingRows w
 by-row r w s e =
-    let q : T (matches (getD standing (s .0) noRow) w) = subst T (sym (ap (λ (x : Row). matches x w) (s .2) ∙ e)) tt in
-    ap rowNumber (sym (s .2)) ∙ sym (found standing standing-apart (s .0) w (s .1) q)
+    let q : T (matches (getD standingRows (s .0) noRow) w) = subst T (sym (ap (λ (x : Row). matches x w) (s .2) ∙ e)) tt in
+    ap rowNumber (sym (s .2)) ∙ sym (found standingRows standing-apart (s .0) w (s .1) q)

@@ -5,16 +5,14 @@ use mathlib.Core.List.{List, [], _∷_, map, _++_, append-assoc}
 use Prim.Native.Nat.{ℕ, zero, suc, _+_, _<_}
 use native.Mathlib.Nat.{add-zero, zero-add, add-suc, suc-add, le-of-suc-le-suc, not-suc-le-zero}
 use native.Mathlib.Numerals.{add-one}
-use native.Mathlib.Omega.{arith}
-use lib.Dec.{T, eqb, eqb→eq}
+use lib.Dec.{T}
 use lib.Ieee.Fits.{and-l, and-r}
 use lib.ListN.{length, getD, length-append}
 use lib.Seq.{getD-append-seam}
-use Rattle.riscv_decode.specs.Listing.{Line, noLine, Fixed, Opcode, listing, operation, fixed, has, refused}
-use Rattle.riscv_decode.specs.Rows.{rowNumber, noRow, matches, findRow, apartFrom, maskOf, matchOf, rowsFrom, standing}
+use Rattle.riscv_decode.specs.Listing.{Line, noLine, Fixed, Opcode, listing, operation, fixed, has, refusedFields}
+use Rattle.riscv_decode.specs.Rows.{rowNumber, noRow, matches, findRow, apartFrom, maskOf, matchOf, rowsFrom, standingRows}
 use Rattle.riscv_decode.specs.Decode.{operationOf, decodeWith, decodeOf, decodeListed}
-use Rattle.riscv_decode.specs.Operations.{numberOf}
-use Rattle.riscv_decode.specs.Statements.{FortyFour, RowsListed, DecodeListed, LinesAccepted, NamedRefused, Numbered}
+use Rattle.riscv_decode.specs.Statements.{FortyFour, RowsListed, DecodeListed, LinesAccepted, NamedRefused}
 use Rattle.riscv_decode.specs.declared.Row.{Row}
 use Rattle.riscv_decode.specs.declared.Operation.{Operation}
 use Rattle.riscv_decode.specs.declared.Decoded.{Decoded}
@@ -46,11 +44,11 @@ by-line ps (l ∷ ls) w t =
 
 -- the rows and the lines
 pub forty-four : FortyFour
-unfolding standing rowsFrom listing
+unfolding standingRows rowsFrom listing
 forty-four = (refl, refl)
 
 pub decode-listed : DecodeListed
-unfolding decodeOf decodeWith operationOf standing listing fixed allFit
+unfolding decodeOf decodeWith operationOf standingRows listing fixed allFit
 decode-listed w = by-line [] listing w tt
 
 row-of : (n : ℕ) (ls : List Line) (i w : ℕ) → T (allFit ls) → i < length ls
@@ -63,7 +61,7 @@ row-of n (l ∷ ls) (suc i) w t h =
     (q .0, q .1 ∙ suc-add n i ∙ sym (add-suc n i))
 
 pub rows-listed : RowsListed
-unfolding standing allFit listing fixed
+unfolding standingRows allFit listing fixed
 rows-listed i w h = let q = row-of 1 listing i w tt h in (q .0, q .1 ∙ suc-add 0 i ∙ ap suc (zero-add i))
 
 getD-known : (w : ℕ) (ls : List Line) (i : ℕ) → i < length ls → getD (map (known w) ls) i Refused ≡ known w (getD ls i noLine)
@@ -75,8 +73,8 @@ pub accepted : LinesAccepted
 unfolding decodeOf decodeWith operationOf
 accepted i w h p =
     let q = rows-listed i w h in
-    let g : i < length standing = rw (forty-four .1, ← forty-four .0) h in
-    let e : findRow standing w ≡ suc i = found standing standing-apart i w g (subst T (sym (q .0)) p) ∙ q .1 in
+    let g : i < length standingRows = rw (forty-four .1, ← forty-four .0) h in
+    let e : findRow standingRows w ≡ suc i = found standingRows standing-apart i w g (subst T (sym (q .0)) p) ∙ q .1 in
     rw e (getD-known w listing i h)
 
 -- a row of these fields
@@ -85,43 +83,24 @@ rowOf f = record { 0 = maskOf f; 1 = matchOf f; 2 = 0 }
 
 allBeside : List Fixed → Bool
 allBeside [] = true
-allBeside (f ∷ fs) = fits f && apartFrom (rowOf f) standing && allBeside fs
+allBeside (f ∷ fs) = fits f && apartFrom (rowOf f) standingRows && allBeside fs
 
 beside-at : (fs : List Fixed) (i w : ℕ) → T (allBeside fs) → i < length fs → T (has (getD fs i (Opcode 0)) w)
-    → T (apartFrom (rowOf (getD fs i (Opcode 0))) standing) × T (matches (rowOf (getD fs i (Opcode 0))) w)
+    → T (apartFrom (rowOf (getD fs i (Opcode 0))) standingRows) × T (matches (rowOf (getD fs i (Opcode 0))) w)
 unfolding allBeside
 beside-at [] i w t h p = absurd (not-suc-le-zero h)
 beside-at (f ∷ fs) zero w t h p =
-    let b = and-l (fits f && apartFrom (rowOf f) standing) (allBeside fs) t in
-    (and-r (fits f) (apartFrom (rowOf f) standing) b, subst T (sym (fields f w (and-l (fits f) (apartFrom (rowOf f) standing) b))) p)
+    let b = and-l (fits f && apartFrom (rowOf f) standingRows) (allBeside fs) t in
+    (and-r (fits f) (apartFrom (rowOf f) standingRows) b, subst T (sym (fields f w (and-l (fits f) (apartFrom (rowOf f) standingRows) b))) p)
 beside-at (f ∷ fs) (suc i) w t h p =
-    beside-at fs i w (and-r (fits f && apartFrom (rowOf f) standing) (allBeside fs) t) (le-of-suc-le-suc h) p
+    beside-at fs i w (and-r (fits f && apartFrom (rowOf f) standingRows) (allBeside fs) t) (le-of-suc-le-suc h) p
 
 pub named-refused : NamedRefused
-unfolding decodeOf decodeWith operationOf refused allBeside apartFrom standing rowsFrom listing fixed maskOf matchOf
+unfolding decodeOf decodeWith operationOf refusedFields allBeside apartFrom standingRows rowsFrom listing fixed maskOf matchOf
 named-refused i w h p =
-    let r = rowOf (getD refused i (Opcode 0)) in
-    let b = beside-at refused i w tt h p in
-    (λ j g q. not-both r (getD standing j noRow) w (from r standing (b .0) j g) (b .1) q, rw (beside r standing w (b .0) (b .1)))
-
--- the lines' operations are numbered from n on
-counted : ℕ → List Line → ℕ → Bool
-counted n [] w = true
-counted n (l ∷ ls) w = eqb (numberOf (operation l w)) n && counted (suc n) ls w
-
-counted-at : (n : ℕ) (ls : List Line) (i w : ℕ) (o : Operation) → T (counted n ls w) → getD (map (known w) ls) i Refused ≡ Known o → numberOf o ≡ n + i
-unfolding counted
-counted-at n [] i w o t e = let z : _≡_ {A = ℕ} 0 1 = cc in omega arith
-counted-at n (l ∷ ls) zero w o t e =
-    let s : operation l w ≡ o = cc in
-    sym (ap numberOf s) ∙ eqb→eq (numberOf (operation l w)) n (and-l (eqb (numberOf (operation l w)) n) (counted (suc n) ls w) t) ∙ sym (add-zero n)
-counted-at n (l ∷ ls) (suc i) w o t e =
-    counted-at (suc n) ls i w o (and-r (eqb (numberOf (operation l w)) n) (counted (suc n) ls w) t) e ∙ suc-add n i ∙ sym (add-suc n i)
-
-pub numbered : Numbered
-unfolding operationOf listing counted operation numberOf
-numbered zero w o e = let z : _≡_ {A = ℕ} 0 1 = cc in omega arith
-numbered (suc n) w o e = counted-at 1 listing n w o tt e ∙ suc-add 0 n ∙ ap suc (zero-add n)
+    let r = rowOf (getD refusedFields i (Opcode 0)) in
+    let b = beside-at refusedFields i w tt h p in
+    (λ j g q. not-both r (getD standingRows j noRow) w (from r standingRows (b .0) j g) (b .1) q, rw (beside r standingRows w (b .0) (b .1)))
 
 -- a test of operations, on the one that each line makes of the word
 abbrev pub allLines : (Operation → Bool) → List Line → ℕ → Bool

@@ -1,4 +1,4 @@
--- The manual's listing of instructions ("RV32/64G Instruction Set Listings"), in the order of document 01.
+-- The manual's listing of instructions ("RV32/64G Instruction Set Listings"), in document 01's order (Halfword and word).
 use mathlib.Core.Bool.{Bool, _&&_}
 use mathlib.Core.List.{List, [], _∷_}
 use Prim.Native.Nat.{ℕ}
@@ -12,7 +12,7 @@ use Rattle.riscv_decode.specs.declared.SType.{SType}
 use Rattle.riscv_decode.specs.declared.ShiftType.{ShiftType}
 use Rattle.riscv_decode.specs.declared.RType.{RType}
 use Rattle.riscv_decode.specs.declared.Operation.{Operation}
-use Rattle.riscv_decode.specs.declared.Operation.the-variants.{Lui, Auipc, Jal, Jalr, Beq, Bne, Blt, Bge, Bltu, Bgeu, Lb, Lh, Lw, Lbu, Lhu, Sb, Sh, Sw, Addi, Slti, Sltiu, Xori, Ori, Andi, Slli, Srli, Srai, Add, Sub, Sll, Slt, Sltu, Xor, Srl, Sra, Or, And, Mul, Div, Divu, Rem, Remu, Fence, FenceI}
+use Rattle.riscv_decode.specs.declared.Operation.the-variants as op
 
 -- a line of the listing by its format: the opcode, the funct3 and the funct7 that it fixes, in this order, and the operation
 pub data Line : Type 0 where
@@ -25,63 +25,62 @@ pub data Line : Type 0 where
   R : ℕ → ℕ → ℕ → (RType → Operation) → Line
   NoOperands : ℕ → ℕ → Operation → Line
 
--- "Forty-four operations are accepted"
+-- Halfword and word: how many operations there are
 abbrev pub operationCount : ℕ
 operationCount = 44
 
--- their lines: a line's place, counted from 1, is its operation's number. FENCE and FENCE.I "are known by opcode 0F and
--- funct3 0 or 1", whatever their other fields
+-- their lines: a line's place, counted from 1, is its operation's number. Of FENCE and FENCE.I only opcode and funct3 are fixed
 unfoldable pub listing : List Line
 listing =
-    U 0x37 Lui ∷
-    U 0x17 Auipc ∷
-    J 0x6f Jal ∷
-    I 0x67 0 Jalr ∷
-    B 0x63 0 Beq ∷
-    B 0x63 1 Bne ∷
-    B 0x63 4 Blt ∷
-    B 0x63 5 Bge ∷
-    B 0x63 6 Bltu ∷
-    B 0x63 7 Bgeu ∷
-    I 0x03 0 Lb ∷
-    I 0x03 1 Lh ∷
-    I 0x03 2 Lw ∷
-    I 0x03 4 Lbu ∷
-    I 0x03 5 Lhu ∷
-    S 0x23 0 Sb ∷
-    S 0x23 1 Sh ∷
-    S 0x23 2 Sw ∷
-    I 0x13 0 Addi ∷
-    I 0x13 2 Slti ∷
-    I 0x13 3 Sltiu ∷
-    I 0x13 4 Xori ∷
-    I 0x13 6 Ori ∷
-    I 0x13 7 Andi ∷
-    Shift 0x13 1 0x00 Slli ∷
-    Shift 0x13 5 0x00 Srli ∷
-    Shift 0x13 5 0x20 Srai ∷
-    R 0x33 0 0x00 Add ∷
-    R 0x33 0 0x20 Sub ∷
-    R 0x33 1 0x00 Sll ∷
-    R 0x33 2 0x00 Slt ∷
-    R 0x33 3 0x00 Sltu ∷
-    R 0x33 4 0x00 Xor ∷
-    R 0x33 5 0x00 Srl ∷
-    R 0x33 5 0x20 Sra ∷
-    R 0x33 6 0x00 Or ∷
-    R 0x33 7 0x00 And ∷
-    R 0x33 0 0x01 Mul ∷
-    R 0x33 4 0x01 Div ∷
-    R 0x33 5 0x01 Divu ∷
-    R 0x33 6 0x01 Rem ∷
-    R 0x33 7 0x01 Remu ∷
-    NoOperands 0x0f 0 Fence ∷
-    NoOperands 0x0f 1 FenceI ∷
+    U 0x37 op.Lui ∷
+    U 0x17 op.Auipc ∷
+    J 0x6f op.Jal ∷
+    I 0x67 0 op.Jalr ∷
+    B 0x63 0 op.Beq ∷
+    B 0x63 1 op.Bne ∷
+    B 0x63 4 op.Blt ∷
+    B 0x63 5 op.Bge ∷
+    B 0x63 6 op.Bltu ∷
+    B 0x63 7 op.Bgeu ∷
+    I 0x03 0 op.Lb ∷
+    I 0x03 1 op.Lh ∷
+    I 0x03 2 op.Lw ∷
+    I 0x03 4 op.Lbu ∷
+    I 0x03 5 op.Lhu ∷
+    S 0x23 0 op.Sb ∷
+    S 0x23 1 op.Sh ∷
+    S 0x23 2 op.Sw ∷
+    I 0x13 0 op.Addi ∷
+    I 0x13 2 op.Slti ∷
+    I 0x13 3 op.Sltiu ∷
+    I 0x13 4 op.Xori ∷
+    I 0x13 6 op.Ori ∷
+    I 0x13 7 op.Andi ∷
+    Shift 0x13 1 0x00 op.Slli ∷
+    Shift 0x13 5 0x00 op.Srli ∷
+    Shift 0x13 5 0x20 op.Srai ∷
+    R 0x33 0 0x00 op.Add ∷
+    R 0x33 0 0x20 op.Sub ∷
+    R 0x33 1 0x00 op.Sll ∷
+    R 0x33 2 0x00 op.Slt ∷
+    R 0x33 3 0x00 op.Sltu ∷
+    R 0x33 4 0x00 op.Xor ∷
+    R 0x33 5 0x00 op.Srl ∷
+    R 0x33 5 0x20 op.Sra ∷
+    R 0x33 6 0x00 op.Or ∷
+    R 0x33 7 0x00 op.And ∷
+    R 0x33 0 0x01 op.Mul ∷
+    R 0x33 4 0x01 op.Div ∷
+    R 0x33 5 0x01 op.Divu ∷
+    R 0x33 6 0x01 op.Rem ∷
+    R 0x33 7 0x01 op.Remu ∷
+    NoOperands 0x0f 0 op.Fence ∷
+    NoOperands 0x0f 1 op.FenceI ∷
     []
 
 -- what stands past the listing's end
 abbrev pub noLine : Line
-noLine = NoOperands 0 0 Fence
+noLine = NoOperands 0 0 op.Fence
 
 -- the operation of a line, with the operands that the word has in the line's format
 unfoldable pub operation : Line → ℕ → Operation
@@ -118,6 +117,6 @@ has (Funct3 opcode funct3) w = eqb (opcodeField w) opcode && eqb (funct3Field w)
 has (Funct7 opcode funct3 funct7) w =
     eqb (opcodeField w) opcode && eqb (funct3Field w) funct3 && eqb (funct7Field w) funct7
 
--- "MULH, MULHSU, MULHU, ECALL and EBREAK are refused": their fields; the last two are of opcode 73, which is refused whole
-unfoldable pub refused : List Fixed
-refused = Funct7 0x33 1 0x01 ∷ Funct7 0x33 2 0x01 ∷ Funct7 0x33 3 0x01 ∷ Opcode 0x73 ∷ []
+-- the fields of MULH, MULHSU and MULHU, and opcode 73, which ECALL and EBREAK have: no line has them
+unfoldable pub refusedFields : List Fixed
+refusedFields = Funct7 0x33 1 0x01 ∷ Funct7 0x33 2 0x01 ∷ Funct7 0x33 3 0x01 ∷ Opcode 0x73 ∷ []

@@ -1,4 +1,4 @@
--- Tables of mask and match rows (document 01, "Halfword and word"), over any table.
+-- Tables of mask and match rows (Halfword and word), over any table.
 use mathlib.Core.Bool.{Bool, true, cond, not, _&&_}
 use mathlib.Core.List.{List, [], _∷_}
 use mathlib.Core.Path.{_≡_}
@@ -41,7 +41,7 @@ unfoldable pub apartFrom : Row → List Row → Bool
 apartFrom r [] = true
 apartFrom r (s ∷ rs) = apart r s && apartFrom r rs
 
--- "No word matches two rows": the test of all pairs
+-- the test of all pairs: each row is apart from each later one
 unfoldable pub allApart : List Row → Bool
 allApart [] = true
 allApart (r ∷ rs) = apartFrom r rs && allApart rs
@@ -65,9 +65,9 @@ rowsFrom n (l ∷ ls) =
     record { 0 = maskOf (fixed l); 1 = matchOf (fixed l); 2 = n } ∷ rowsFrom (suc n) ls
 
 -- the standing table: a row for each of the listing's lines, numbered from 1
-unfoldable pub standing : List Row
-standing = rowsFrom 1 listing
+unfoldable pub standingRows : List Row
+standingRows = rowsFrom 1 listing
 
 -- the row is one of the standing table's
 abbrev pub Stands : Row → Type 0
-Stands r = (i : ℕ) × (i < length standing) × (getD standing i noRow ≡ r)
+Stands r = (i : ℕ) × (i < length standingRows) × (getD standingRows i noRow ≡ r)

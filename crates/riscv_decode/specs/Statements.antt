@@ -1,34 +1,32 @@
--- What is claimed of the standing table and the decoder (document 01, "Halfword and word"), of every word. The proofs stand in proofs/Apart and proofs/Listed.
+-- What is claimed of the standing table and the decoder (Halfword and word), of every word. The proofs stand in proofs/Apart and proofs/Listed.
 use mathlib.Core.Path.{_≡_}
 use Prim.Native.Nat.{ℕ, suc, _<_}
 use lib.Dec.{T}
 use lib.ListN.{length, getD}
-use Rattle.riscv_decode.specs.Listing.{operationCount, noLine, Opcode, listing, operation, fixed, has, refused}
-use Rattle.riscv_decode.specs.Operations.{numberOf}
-use Rattle.riscv_decode.specs.Rows.{rowNumber, noRow, matches, allApart, standing}
-use Rattle.riscv_decode.specs.Decode.{operationOf, decodeOf, decodeListed}
-use Rattle.riscv_decode.specs.declared.Operation.{Operation}
+use Rattle.riscv_decode.specs.Listing.{operationCount, noLine, Opcode, listing, operation, fixed, has, refusedFields}
+use Rattle.riscv_decode.specs.Rows.{rowNumber, noRow, matches, allApart, standingRows}
+use Rattle.riscv_decode.specs.Decode.{decodeOf, decodeListed}
 use Rattle.riscv_decode.specs.declared.Decoded.the-variants.{Known, Refused}
 
 -- forty-four operations are accepted: so many lines, and a row for each
 abbrev pub FortyFour : Type 0
-FortyFour = (length listing ≡ operationCount) × (length standing ≡ operationCount)
+FortyFour = (length listing ≡ operationCount) × (length standingRows ≡ operationCount)
 
 -- the standing table passes the test of all pairs
 abbrev pub StandingApart : Type 0
-StandingApart = T (allApart standing)
+StandingApart = T (allApart standingRows)
 
 -- so no word matches two rows
 abbrev pub OneRow : Type 0
 OneRow =
-    (i j w : ℕ) → i < j → j < length standing
-    → T (matches (getD standing i noRow) w) → T (matches (getD standing j noRow) w) → ⊥
+    (i j w : ℕ) → i < j → j < length standingRows
+    → T (matches (getD standingRows i noRow) w) → T (matches (getD standingRows j noRow) w) → ⊥
 
 -- the rows are the manual's listing: a word matches a row exactly if it has the fields of the line in its place, whose number the row has
 abbrev pub RowsListed : Type 0
 RowsListed =
     (i w : ℕ) → i < length listing
-    → (matches (getD standing i noRow) w ≡ has (fixed (getD listing i noLine)) w) × (rowNumber (getD standing i noRow) ≡ suc i)
+    → (matches (getD standingRows i noRow) w ≡ has (fixed (getD listing i noLine)) w) × (rowNumber (getD standingRows i noRow) ≡ suc i)
 
 -- so a word decodes by the rows as it does by the listing alone
 abbrev pub DecodeListed : Type 0
@@ -42,9 +40,5 @@ LinesAccepted =
 -- MULH, MULHSU, MULHU, ECALL and EBREAK have no row, and are refused
 abbrev pub NamedRefused : Type 0
 NamedRefused =
-    (i w : ℕ) → i < length refused → T (has (getD refused i (Opcode 0)) w)
-    → ((j : ℕ) → j < length standing → T (matches (getD standing j noRow) w) → ⊥) × (decodeOf w ≡ Refused)
-
--- the operation that a number stands for has that number
-abbrev pub Numbered : Type 0
-Numbered = (n w : ℕ) (o : Operation) → operationOf n w ≡ Known o → numberOf o ≡ n
+    (i w : ℕ) → i < length refusedFields → T (has (getD refusedFields i (Opcode 0)) w)
+    → ((j : ℕ) → j < length standingRows → T (matches (getD standingRows j noRow) w) → ⊥) × (decodeOf w ≡ Refused)

@@ -2,11 +2,11 @@
 ghost use mathlib.Core.Path.{_≡_};
 ghost use Rattle.riscv_decode.specs.Decode.{operationOf, decodeWith, decodeOf};
 
-mod operands;
-pub mod operations;
+pub mod operands;
+mod operations;
 pub mod rows;
 
-use operands::operation_of;
+use operations::operation_of;
 use rows::Table;
 use rows::find_row;
 use rows::find_standing_row;

@@ -1,6 +1,6 @@
 // The table of mask and match rows, and its scan.
 ghost use mathlib.Core.Path.{_≡_};
-ghost use Rattle.riscv_decode.specs.Rows.{standing, Stands, matches, findRow};
+ghost use Rattle.riscv_decode.specs.Rows.{standingRows, Stands, matches, findRow};
 use crate::OPERATIONS;
 use crate::Row;
 
@@ -145,7 +145,7 @@ const STANDING_ROWS: Table = [
 ];
 
 pub fn standing_rows() -> Table
-    ensures { λ r. ⌜ r ≡ standing ⌝ }
+    ensures { λ r. ⌜ r ≡ standingRows ⌝ }
 {
     STANDING_ROWS
 }
@@ -292,7 +292,7 @@ fn likely_row(word: u32) -> Row
 
 // The same by the standing table. No word matches two of its rows, so the likely one is tried before the scan.
 pub fn find_standing_row(word: u32) -> u32
-    ensures { λ r. ⌜ r ≡ findRow standing word ⌝ }
+    ensures { λ r. ⌜ r ≡ findRow standingRows word ⌝ }
 {
     let likely = likely_row(word);
     if likely.matches(word) {

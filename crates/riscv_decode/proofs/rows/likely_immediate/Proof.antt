@@ -1,11 +1,11 @@
 use Rattle.riscv_decode.specs.Listing.{listing, fixed}
-use Rattle.riscv_decode.specs.Rows.{maskOf, matchOf, rowsFrom, standing}
+use Rattle.riscv_decode.specs.Rows.{maskOf, matchOf, rowsFrom, standingRows}
 use Rattle.riscv_decode.proofs.Apart.{stands}
 use Rattle.riscv_decode.proofs.rows.likely_immediate.Statement.{statement}
 use Rattle.riscv_decode.proofs.rows.likely_immediate.Tie as tie
 
 pub likely-immediate-spec : {M : Type 1} → statement M
-unfolding standing rowsFrom listing fixed maskOf matchOf
+unfolding standingRows rowsFrom listing fixed maskOf matchOf
 likely-immediate-spec =
     tie.close
     (tie.spec

@@ -1,12 +1,12 @@
 use borrow.Author.Needs.{needs}
 use Rattle.riscv_decode.specs.Listing.{listing, fixed}
-use Rattle.riscv_decode.specs.Rows.{maskOf, matchOf, rowsFrom, standing}
+use Rattle.riscv_decode.specs.Rows.{maskOf, matchOf, rowsFrom, standingRows}
 use Rattle.riscv_decode.proofs.Apart.{stands}
 use Rattle.riscv_decode.proofs.rows.likely_register.Statement.{statement}
 use Rattle.riscv_decode.proofs.rows.likely_register.Tie as tie
 
 pub likely-register-spec : {M : Type 1} → statement M
-unfolding standing rowsFrom listing fixed maskOf matchOf
+unfolding standingRows rowsFrom listing fixed maskOf matchOf
 likely-register-spec =
     tie.close
     (tie.spec
