@@ -20,7 +20,7 @@ unfolding Bits.signExtend Expansion.expand Expansion.quadrant0 Expansion.quadran
 expansion = tt
 
 unfoldable pub decoding : Unit {0}
-unfolding Bits.signExtend Listing.listing Listing.operation Listing.fixed Rows.maskOf Rows.matchOf Rows.rowsFrom Rows.standing Rows.findRow Decode.operationOf Decode.decodeWith Decode.decodeOf
+unfolding Bits.signExtend Listing.listing Listing.operation Listing.fixed Rows.maskOf Rows.matchOf Rows.rowsFrom Rows.standingRows Rows.findRow Decode.operationOf Decode.decodeWith Decode.decodeOf
 decoding = tt
 
 unfoldable pub words : Unit {0}
