@@ -36,7 +36,8 @@ use predicate_semantics::STOP_WORD;
 use riscv32imc::arithmetic::Binary;
 ghost use mathlib.Core.Path.{_≡_};
 ghost use mathlib.Core.List.{[]};
-ghost use Rattle.lane_word.specs.Word.{constant, lanes};
+ghost use Rattle.riscv32imc.specs.Value.{valueOf};
+ghost use Rattle.lane_word.specs.Word.{binary, constant, lanes};
 ghost use Rattle.predicate_semantics.specs.Program.{inMemory, placed};
 ghost use Rattle.predicate_semantics.specs.Blank.{noExecution};
 ghost use Rattle.lane_memory.specs.Rows.{rowCount, cleared};
@@ -184,6 +185,35 @@ fn load_lanes(image: &[u8], rows: &[u8], address: u32, width: u32, extension: Ex
     extend(word, extension)
 }
 
+// An operation's method. The last are bytes' operations, which no instruction computes.
+fn operate(function: Binary, one: LaneWord, other: LaneWord) -> LaneWord
+    ensures { λ r. ⌜ r ≡ binary (valueOf function) one other ⌝ }
+{
+    match function {
+        Binary::Add => one.add(other),
+        Binary::Sub => one.sub(other),
+        Binary::Sll => one.sll(other),
+        Binary::Slt => one.slt(other),
+        Binary::Sltu => one.sltu(other),
+        Binary::Xor => one.xor(other),
+        Binary::Srl => one.srl(other),
+        Binary::Sra => one.sra(other),
+        Binary::Or => one.or(other),
+        Binary::And => one.and(other),
+        Binary::Mul => one.mul(other),
+        Binary::Div => one.div(other),
+        Binary::Divu => one.divu(other),
+        Binary::Rem => one.rem(other),
+        Binary::Remu => one.remu(other),
+        Binary::Eq => one.eq(other),
+        Binary::Ne => one.ne(other),
+        Binary::Ge => one.ge(other),
+        Binary::Geu => one.geu(other),
+        Binary::Target => one.jump_target(other),
+        _ => one.map_binary(other, function),
+    }
+}
+
 // Steps up to the run's end. The registers stay here, each told by one value or by its lanes; only single words cross calls.
 fn advance(
     first: Progress,
@@ -227,30 +257,7 @@ fn advance(
             let b = place_of(right, rs2, 33);
             let one = registers.words[a];
             let other = registers.words[b];
-            // The last are bytes' operations, which no instruction computes.
-            match function {
-                Binary::Add => computed = one.add(other),
-                Binary::Sub => computed = one.sub(other),
-                Binary::Sll => computed = one.sll(other),
-                Binary::Slt => computed = one.slt(other),
-                Binary::Sltu => computed = one.sltu(other),
-                Binary::Xor => computed = one.xor(other),
-                Binary::Srl => computed = one.srl(other),
-                Binary::Sra => computed = one.sra(other),
-                Binary::Or => computed = one.or(other),
-                Binary::And => computed = one.and(other),
-                Binary::Mul => computed = one.mul(other),
-                Binary::Div => computed = one.div(other),
-                Binary::Divu => computed = one.divu(other),
-                Binary::Rem => computed = one.rem(other),
-                Binary::Remu => computed = one.remu(other),
-                Binary::Eq => computed = one.eq(other),
-                Binary::Ne => computed = one.ne(other),
-                Binary::Ge => computed = one.ge(other),
-                Binary::Geu => computed = one.geu(other),
-                Binary::Target => computed = one.jump_target(other),
-                _ => computed = one.map_binary(other, function),
-            }
+            computed = operate(function, one, other);
             tested = tell(computed.known, &computed.values);
         }
         let change = decide(progress, tested, image, rows, trace.len() / ENTRY_BYTES);

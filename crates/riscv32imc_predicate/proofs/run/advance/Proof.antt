@@ -96,51 +96,6 @@ module _ (k : tie.At-match2-came I μ) where
   place-second : placeOf (k .match2 .right) (in₁ at₁ .before .loop .progress .rs2) 33 < 35
   place-second = place-below (k .match2 .right) _ 33 (omega (arith, below-second (in₁ at₁))) (omega arith)
 
--- the method that is called is the operation's
-module _ (k : tie.At-match3-came I μ) where
-  abbrev at₃ : tie.After-place-of2 I μ
-  at₃ = k .before .before .before
-
-  abbrev laid : tie.At-match2-came I μ
-  laid = at₃ .before .before
-
-  abbrev operation : Binary
-  operation = in₁ (at₁ laid) .before .loop .progress .computation .function
-
-  abbrev lanes-first : LaneWord
-  lanes-first = getD (wordsOf (laid .match2 .registers)) (at₃ .before .place-of .result) blank
-
-  abbrev lanes-second : LaneWord
-  lanes-second = getD (wordsOf (laid .match2 .registers)) (at₃ .place-of2 .result) blank
-
-  by : (f : Binary) → operation ≡ f → {z : LaneWord} → z ≡ binary (valueOf f) lanes-first lanes-second → k .match3 .computed ≡ z → k .match3 .computed ≡ binary (valueOf operation) lanes-first lanes-second
-  by f q e h = h ∙ e ∙ ap (λ (g : Binary). binary (valueOf g) lanes-first lanes-second) (sym q)
-
-  called : k .match3 .computed ≡ binary (valueOf operation) lanes-first lanes-second
-  called =
-      ⊎-elim (λ w. by _ (w .1 .given .1) (w .2 .ensures) (w .3))
-      (⊎-elim (λ w. by _ (w .1 .given .1) (w .2 .ensures) (w .3))
-      (⊎-elim (λ w. by _ (w .1 .given .1) (w .2 .ensures) (w .3))
-      (⊎-elim (λ w. by _ (w .1 .given .1) (w .2 .ensures) (w .3))
-      (⊎-elim (λ w. by _ (w .1 .given .1) (w .2 .ensures) (w .3))
-      (⊎-elim (λ w. by _ (w .1 .given .1) (w .2 .ensures) (w .3))
-      (⊎-elim (λ w. by _ (w .1 .given .1) (w .2 .ensures) (w .3))
-      (⊎-elim (λ w. by _ (w .1 .given .1) (w .2 .ensures) (w .3))
-      (⊎-elim (λ w. by _ (w .1 .given .1) (w .2 .ensures) (w .3))
-      (⊎-elim (λ w. by _ (w .1 .given .1) (w .2 .ensures) (w .3))
-      (⊎-elim (λ w. by _ (w .1 .given .1) (w .2 .ensures) (w .3))
-      (⊎-elim (λ w. by _ (w .1 .given .1) (w .2 .ensures) (w .3))
-      (⊎-elim (λ w. by _ (w .1 .given .1) (w .2 .ensures) (w .3))
-      (⊎-elim (λ w. by _ (w .1 .given .1) (w .2 .ensures) (w .3))
-      (⊎-elim (λ w. by _ (w .1 .given .1) (w .2 .ensures) (w .3))
-      (⊎-elim (λ w. by _ (w .1 .given .1) (w .2 .ensures) (w .3))
-      (⊎-elim (λ w. by _ (w .1 .given .1) (w .2 .ensures) (w .3))
-      (⊎-elim (λ w. by _ (w .1 .given .1) (w .2 .ensures) (w .3))
-      (⊎-elim (λ w. by _ (w .1 .given .1) (w .2 .ensures) (w .3))
-      (⊎-elim (λ w. by _ (w .1 .given .1) (w .2 .ensures) (w .3))
-      (λ w. w .2 ∙ w .1 .ensures))))))))))))))))))))
-      (k .match3 .came)
-
 -- the computed word
 module _ (j : tie.Joined1 I μ) where
   abbrev in₂ : tie.In-loop I μ
@@ -155,14 +110,12 @@ module _ (j : tie.Joined1 I μ) where
       (λ w.
       let m₁ : tie.At-match-came I μ = record { before = record { before = j .before; if1 = w .0 }; match = w .1 } in
       let m₂ : tie.At-match2-came I μ = record { before = m₁; match2 = w .2 } in
-      let p₂ : tie.After-place-of2 I μ = record { before = record { before = m₂; place-of = w .3 }; place-of2 = w .4 } in
-      let m₃ : tie.At-match3-came I μ = record { before = record { before = record { before = p₂; one = w .5 }; other = w .6 }; match3 = w .7 } in
       subst (λ (z : List LaneWord). ComputedAt z (j .if1 .computed) (j .if1 .tested)) (sym (ap wordsOf (w .12)))
       (computed-lanes _ _ _ _ (in₂ .before .loop .inv) (in₂ .loop-test .taken) (wordsOf (w .1 .registers)) (wordsOf (w .2 .registers)) (w .3 .result) (w .4 .result) blank blank
       (j .if1 .computed) (j .if1 .tested) (laid-first m₁ .0) (laid-second m₂ .0)
       (w .3 .ensures ∙ ap (λ (u : Uniform). placeOf u (in₂ .before .loop .progress .rs1) 32) (laid-first m₁ .1))
       (w .4 .ensures ∙ ap (λ (u : Uniform). placeOf u (in₂ .before .loop .progress .rs2) 33) (laid-second m₂ .1))
-      (w .13 ∙ called m₃) (w .14 ∙ w .11 .ensures ∙ ap uniformOf (sym (w .13)))))
+      (w .13 ∙ w .7 .ensures) (w .14 ∙ w .11 .ensures ∙ ap uniformOf (sym (w .13)))))
       (λ w.
       let v = j .before in
       let t = v .before in
@@ -177,7 +130,7 @@ module _ (j : tie.Joined1 I μ) where
       (j .if1 .came)
 
 -- the change is made
-module _ (d : tie.At-match4-came I μ) where
+module _ (d : tie.At-match3-came I μ) where
   abbrev dec : tie.After-decide I μ
   dec = d .before
 
@@ -189,13 +142,13 @@ module _ (d : tie.At-match4-came I μ) where
 
   abbrev Applies : Change → Type 0
   Applies c =
-      Applied _ _ _ _ (in₃ .before .loop .inv) (in₃ .loop-test .taken) (computed-now at₂) c (d .match4 .told) (wordsOf (d .match4 .registers)) (d .match4 .recorded) (d .match4 .rows) (d .match4 .new)
+      Applied _ _ _ _ (in₃ .before .loop .inv) (in₃ .loop-test .taken) (computed-now at₂) c (d .match3 .told) (wordsOf (d .match3 .registers)) (d .match3 .recorded) (d .match3 .rows) (d .match3 .new)
 
   abbrev MadeOf : Change → Type 0
   MadeOf c =
-      Made _ _ _ _ (in₃ .before .loop .inv) (in₃ .loop-test .taken) (computed-now at₂) (d .match4 .change) c (d .match4 .told) (wordsOf (d .match4 .registers)) (d .match4 .recorded) (d .match4 .rows) (d .match4 .new)
+      Made _ _ _ _ (in₃ .before .loop .inv) (in₃ .loop-test .taken) (computed-now at₂) (d .match3 .change) c (d .match3 .told) (wordsOf (d .match3 .registers)) (d .match3 .recorded) (d .match3 .rows) (d .match3 .new)
 
-  making : (x : Change) → d .match4 .change ≡ x → dec .decide .result ≡ x → Applies x → MadeOf (dec .decide .result)
+  making : (x : Change) → d .match3 .change ≡ x → dec .decide .result ≡ x → Applies x → MadeOf (dec .decide .result)
   making x e q a = record { same = e ∙ sym q; applied = subst Applies (sym e) a }
 
   abbrev toldNow : List Uniform
@@ -207,11 +160,11 @@ module _ (d : tie.At-match4-came I μ) where
   abbrev stores : LaneWord
   stores = word₂ _ _ _ _ (in₃ .before .loop .inv) (in₃ .loop-test .taken)
 
-  stored : (at n : ℕ) (z : LaneWord) (new : ℕ) (rows : List ℕ) → Stores (in₃ .before .loop .rows) at n z new rows → d .match4 .new ≡ new → d .match4 .rows ≡ rows
-      → z ≡ stores → Stores (in₃ .before .loop .rows) at n stores (d .match4 .new) (d .match4 .rows)
+  stored : (at n : ℕ) (z : LaneWord) (new : ℕ) (rows : List ℕ) → Stores (in₃ .before .loop .rows) at n z new rows → d .match3 .new ≡ new → d .match3 .rows ≡ rows
+      → z ≡ stores → Stores (in₃ .before .loop .rows) at n stores (d .match3 .new) (d .match3 .rows)
   stored at n z new rows o e f g =
-      subst (λ (x : LaneWord). Stores (in₃ .before .loop .rows) at n x (d .match4 .new) (d .match4 .rows)) g
-      (subst (λ (x : ℕ). Stores (in₃ .before .loop .rows) at n z x (d .match4 .rows)) (sym e)
+      subst (λ (x : LaneWord). Stores (in₃ .before .loop .rows) at n x (d .match3 .new) (d .match3 .rows)) g
+      (subst (λ (x : ℕ). Stores (in₃ .before .loop .rows) at n z x (d .match3 .rows)) (sym e)
       (subst (λ (x : List ℕ). Stores (in₃ .before .loop .rows) at n z new x) (sym f) o))
 
   abbrev LocatedAt : ℕ → ℕ → Recorded → Type 0
@@ -250,11 +203,11 @@ module _ (d : tie.At-match4-came I μ) where
       (⊎-elim
       (λ w. making _ (w .15) (w .1 .given .1) (w .13, ap wordsOf (w .12), subst (LocatedAt _ _) (sym (w .14)) (w .3 .ensures), stored _ _ _ _ _ (w .8 .ensures) (w .16) (w .11) (still _ (w .5 .given .1))))
       (λ w. making _ (w .6 ∙ w .1 .given .1) (w .1 .given .1) (w .4, ap wordsOf (w .3), w .5, w .2))))))))
-      (d .match4 .came)
+      (d .match3 .came)
 
 -- and the run goes on from it
 module _ (c : tie.After-follow I μ) where
-  abbrev d : tie.At-match4-came I μ
+  abbrev d : tie.At-match3-came I μ
   d = c .before .before .before
 
   abbrev now₃ : tie.In-loop I μ
@@ -262,14 +215,14 @@ module _ (c : tie.After-follow I μ) where
 
   abbrev GoesOn : List ℕ → Type 0
   GoesOn trace =
-      Went _ _ _ _ (now₃ .before .loop .inv) (now₃ .loop-test .taken) (computed-now (at₂ d)) (d .match4 .told) (wordsOf (d .match4 .registers)) (d .match4 .recorded) (c .follow .result) (d .match4 .rows) trace
+      Went _ _ _ _ (now₃ .before .loop .inv) (now₃ .loop-test .taken) (computed-now (at₂ d)) (d .match3 .told) (wordsOf (d .match3 .registers)) (d .match3 .recorded) (c .follow .result) (d .match3 .rows) trace
 
   on : GoesOn (c .follow .last .1 .1 .1 .1 .1 .0)
   on =
       let m = made d in
       let h = dec d .decide .ensures in
-      went _ _ _ _ (now₃ .before .loop .inv) (now₃ .loop-test .taken) (computed-now (at₂ d)) (d .match4 .told) (wordsOf (d .match4 .registers)) (d .match4 .recorded) (c .follow .result) (d .match4 .rows) _ (d .match4 .new)
-      (d .match4 .change)
+      went _ _ _ _ (now₃ .before .loop .inv) (now₃ .loop-test .taken) (computed-now (at₂ d)) (d .match3 .told) (wordsOf (d .match3 .registers)) (d .match3 .recorded) (c .follow .result) (d .match3 .rows) _ (d .match3 .new)
+      (d .match3 .change)
       (subst (λ (x : Change). Decides (now (start-of now₃ .args .image)) (now₃ .before .loop .rows) (now₃ .before .loop .progress) (at₂ d .if1 .tested) (entryCount (now₃ .before .loop .trace)) x) (sym (m .same)) (h .0))
       (subst Fits (sym (m .same)) (h .1)) (m .applied) (c .follow .ensures)
 
@@ -313,26 +266,6 @@ advance-spec =
     (λ c. let k = c .before .before in omega (arith, c .before .place-of .ensures, place-first k))
     (λ c. let p = c .before in omega (arith, p .place-of2 .ensures, place-second (p .before .before)))
     (λ c. let p = c .before in omega (arith, p .place-of2 .ensures, place-second (p .before .before)))
-    (λ c. search needs) (λ c κs. search needs)
-    (λ c. search needs) (λ c κs. search needs)
-    (λ c. search needs) (λ c κs. search needs)
-    (λ c. search needs) (λ c κs. search needs)
-    (λ c. search needs) (λ c κs. search needs)
-    (λ c. search needs) (λ c κs. search needs)
-    (λ c. search needs) (λ c κs. search needs)
-    (λ c. search needs) (λ c κs. search needs)
-    (λ c. search needs) (λ c κs. search needs)
-    (λ c. search needs) (λ c κs. search needs)
-    (λ c. search needs) (λ c κs. search needs)
-    (λ c. search needs) (λ c κs. search needs)
-    (λ c. search needs) (λ c κs. search needs)
-    (λ c. search needs) (λ c κs. search needs)
-    (λ c. search needs) (λ c κs. search needs)
-    (λ c. search needs) (λ c κs. search needs)
-    (λ c. search needs) (λ c κs. search needs)
-    (λ c. search needs) (λ c κs. search needs)
-    (λ c. search needs) (λ c κs. search needs)
-    (λ c. search needs) (λ c κs. search needs)
     (λ c κs. search needs)
     (λ c κs. search needs)
     (λ c κs. search needs)
