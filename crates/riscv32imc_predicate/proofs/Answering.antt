@@ -14,7 +14,7 @@ use Rattle.predicate_semantics.specs.declared.Rv32SymbolLayout.{Rv32SymbolLayou
 use Rattle.predicate_semantics.specs.State.{Result}
 use Rattle.predicate_semantics.specs.Refusal.{Tested, passed, refused}
 use Rattle.predicate_semantics.specs.Lane.{Ended, execution, LaneState}
-use Rattle.predicate_semantics.specs.Standing.{standing, setup, standingLaneRun, standingScalarRun}
+use Rattle.predicate_semantics.specs.Standing.{standingLaneRun}
 use Rattle.predicate_semantics.specs.Trace.{traceBytes, stepsAt}
 use Rattle.predicate_semantics.specs.Blank.{noEvents}
 use Rattle.predicate_semantics.specs.RecordRules.{Accepted}
@@ -28,35 +28,36 @@ use Rattle.lane_access.specs.Answers.{refusalOf}
 use Rattle.riscv32imc_predicate.specs.declared.PredicateAnswer.{PredicateAnswer}
 use Rattle.riscv32imc_predicate.specs.declared.PredicateAnswer.the-variants as answer
 use Rattle.riscv32imc_predicate.specs.declared.PredicateRun.{PredicateRun}
-use Rattle.riscv32imc_predicate.specs.Tracking.{entryCount}
-use Rattle.riscv32imc_predicate.specs.Outcome.{resultBy, resultIn, executionIn, eventsIn, runOver, Says, Tells, Runs, Ran}
+use Rattle.riscv32imc_predicate.specs.Tracking.{entryCount, Call, called, program, space}
+use Rattle.riscv32imc_predicate.specs.Outcome.{resultBy, resultIn, executionIn, eventsIn, runOver, Ran}
+use Rattle.riscv32imc_predicate.specs.Reporting.{Says, Reports, Runs}
 
-module _ (image : List ℕ) (symbols : Rv32SymbolLayout) (n entries : ℕ) (lent : List ℕ) where
+module _ (c : Call) where
   abbrev e : Ended
-  e = standingLaneRun image symbols n entries
+  e = standingLaneRun (c .image) (c .symbols) (c .rows) (entryCount (c .trace))
 
   -- an accepted run's result, read off its numbers, its events and the trace that it leaves
   module _ (result : Result) (q : e .answer ≡ passed result) where
-    ended : Accepted (setup n entries) (e .state) result
+    ended : Accepted (space c) (e .state) result
     unfolding standingLaneRun
-    ended = Rules.accepted (standing image symbols) (setup n entries) maxSteps result q
+    ended = Rules.accepted (program c) (space c) maxSteps result q
 
-    same-trace : stepsAt 0 (result .steps) (over (traceBytes (e .state .trace)) lent) ≡ result .trace
+    same-trace : stepsAt 0 (result .steps) (over (traceBytes (e .state .trace)) (c .trace)) ≡ result .trace
     same-trace =
-        ap (λ (k : ℕ). stepsAt 0 k (over (traceBytes (e .state .trace)) lent)) (sym (standing-completed image symbols n entries .counted ∙ ended .steps))
-        ∙ trace-back (e .state .trace) lent (standing-trace-fits image symbols n entries) ∙ ended .trace
+        ap (λ (k : ℕ). stepsAt 0 k (over (traceBytes (e .state .trace)) (c .trace))) (sym (standing-completed (c .image) (c .symbols) (c .rows) (entryCount (c .trace)) .counted ∙ ended .steps))
+        ∙ trace-back (e .state .trace) (c .trace) (standing-trace-fits (c .image) (c .symbols) (c .rows) (entryCount (c .trace))) ∙ ended .trace
 
     same-events : take (length (result .events)) (over (result .events) noEvents) ≡ result .events
     same-events = take-append-seam (result .events) (drop (length (result .events)) noEvents)
 
-    read-back : resultBy answer.Accepted (execution (standing image symbols) (setup n entries) (e .state) result) (over (result .events) noEvents)
-        (over (traceBytes (e .state .trace)) lent)
+    read-back : resultBy answer.Accepted (execution (program c) (space c) (e .state) result) (over (result .events) noEvents)
+        (over (traceBytes (e .state .trace)) (c .trace))
         ≡ passed result
     unfolding execution
     read-back = rw (same-trace, same-events) refl
 
   result-of : (a : PredicateAnswer) (t : Tested Result) → e .answer ≡ t → Says a t
-      → resultBy a (executionIn image symbols n entries (e .state) t) (eventsIn t) (over (traceBytes (e .state .trace)) lent) ≡ t
+      → resultBy a (executionIn (c .image) (c .symbols) (c .rows) (entryCount (c .trace)) (e .state) t) (eventsIn t) (over (traceBytes (e .state .trace)) (c .trace)) ≡ t
   result-of answer.Accepted t q (result, h) = rw h (read-back result (q ∙ h))
   result-of (answer.Refused x) t q h = sym h
 
@@ -65,34 +66,30 @@ pub holds-none : (rows rows₁ : List ℕ) → rows₁ ≡ unmarked rows → Hol
 holds-none rows rows₁ c = rw c (subst (λ (k : ℕ). Holds (unmarked rows) k []) (sym (unmarked-holds rows .rows)) (unmarked-holds rows))
 
 module _ (image : List ℕ) (symbols : Rv32SymbolLayout) (rows trace : List ℕ) where
-  same-count : rowCount (unmarked rows) ≡ rowCount rows
-  same-count = unmarked-holds rows .rows
+  module _ {r : PredicateRun} {rows₁ rows₂ trace′ : List ℕ} (c : rows₁ ≡ unmarked rows) (s : Runs image symbols rows₁ trace r rows₂ trace′) where
+    same-run : called image symbols rows₁ trace ≡ called image symbols rows trace
+    same-run = let e : rowCount rows₁ ≡ rowCount rows = ap rowCount c ∙ unmarked-holds rows .rows in rw e
 
-  module _ (r : PredicateRun) (rows₁ rows₂ rows₃ trace′ : List ℕ) (c : rows₁ ≡ unmarked rows) (s : Runs image symbols rows₁ trace r rows₂ trace′) where
-    same-run : rowCount rows₁ ≡ rowCount rows
-    same-run = ap rowCount c ∙ same-count
+    abbrev runOf : Call → Ended
+    runOf d = standingLaneRun (d .image) (d .symbols) (d .rows) (entryCount (d .trace))
 
-    tells : Tells image symbols (rowCount rows) (entryCount trace) ((runOver image symbols rows trace) .state) ((runOver image symbols rows trace) .answer) r
-    tells =
-        subst
-        (λ (k : ℕ).
-        Tells image symbols k (entryCount trace) ((standingLaneRun image symbols k (entryCount trace)) .state) ((standingLaneRun image symbols k (entryCount trace)) .answer) r)
-        same-run (s .tells)
+    reports : Reports (called image symbols rows trace) ((runOver image symbols rows trace) .state) ((runOver image symbols rows trace) .answer) r
+    reports = subst (λ (d : Call). Reports d (runOf d .state) (runOf d .answer) r) same-run (s .reports)
 
     entries : trace′ ≡ over (traceBytes ((runOver image symbols rows trace) .state .trace)) trace
-    entries = subst (λ (k : ℕ). trace′ ≡ over (traceBytes ((standingLaneRun image symbols k (entryCount trace)) .state .trace)) trace) same-run (s .entries)
+    entries = subst (λ (d : Call). trace′ ≡ over (traceBytes (runOf d .state .trace)) (d .trace)) same-run (s .entries)
 
     result : resultIn r trace′ ≡ (runOver image symbols rows trace) .answer
     result =
-        rw (tells .numbers, tells .found, entries)
-        (result-of image symbols (rowCount rows) (entryCount trace) trace (r .answer) ((runOver image symbols rows trace) .answer) refl (tells .says))
+        rw (reports .numbers, reports .found, entries)
+        (result-of (called image symbols rows trace) (r .answer) ((runOver image symbols rows trace) .answer) refl (reports .says))
 
-    pub ran : rows₃ ≡ cleared rows₂ → Ran image symbols rows trace r rows₃ trace′
+    pub ran : {rows₃ : List ℕ} → rows₃ ≡ cleared rows₂ → Ran image symbols rows trace r rows₃ trace′
     ran z = record {
       result = result;
-      completed = tells .completed;
-      numbers = tells .numbers;
-      found = tells .found;
+      completed = reports .completed;
+      numbers = reports .numbers;
+      found = reports .found;
       entries = entries;
       zero = z ∙ s .same-rows ∙ ap cleared c ∙ cleared-unmarked rows;
       guarantee = λ a h. guarantee image symbols (rowCount rows) (entryCount trace) a (sym result ∙ h);

@@ -9,15 +9,13 @@ use borrow.Author.Tests.{eq-eqb, ne-eqb}
 use Rattle.riscv32imc.specs.Constants.{maxSteps}
 use Rattle.riscv_decode.specs.declared.Fetched.{Fetched}
 use Rattle.lane_word.specs.Word.{inputs, firstInput, lanes}
-use Rattle.predicate_semantics.specs.declared.Rv32SymbolLayout.{Rv32SymbolLayout}
-use Rattle.predicate_semantics.specs.Meaning.{meaning}
 use Rattle.predicate_semantics.specs.Program.{stop}
-use Rattle.predicate_semantics.specs.Refusal.{Refusal, passed, refused, _>>=_, refuse}
-use Rattle.predicate_semantics.specs.Lane.{LaneState, memoryOf, fetch, look, step, run}
+use Rattle.predicate_semantics.specs.Refusal.{Refusal, Tested, passed, refused, _>>=_, refuse}
+use Rattle.predicate_semantics.specs.Lane.{LaneState, memoryOf, fetch, attempt, step, run}
 use Rattle.predicate_semantics.specs.Standing.{standingCore, standing, setup}
 use Rattle.predicate_semantics.proofs.Laws.{run-out, run-refused}
-use Rattle.predicate_action.specs.Action.{meaningOf, firstSource, secondSource}
-use Rattle.predicate_action.specs.Computation.{computationOf}
+use Rattle.predicate_action.specs.Meaning.{meaning}
+use Rattle.predicate_action.specs.Reading.{readingOf}
 use Rattle.lane_access.specs.declared.Rv32Error.{Rv32Error}
 use Rattle.lane_access.specs.declared.Rv32Error.the-variants as error
 use Rattle.lane_access.specs.Seen.{seen}
@@ -26,19 +24,27 @@ use Rattle.riscv32imc_predicate.specs.declared.Place.{Place}
 use Rattle.riscv32imc_predicate.specs.declared.Ending.{Ending}
 use Rattle.riscv32imc_predicate.specs.declared.Ending.the-variants as ending
 use Rattle.riscv32imc_predicate.specs.declared.Progress.{Progress}
-use Rattle.riscv32imc_predicate.specs.Tracking.{program, space, rest, Goes, Ends, Comes, Readies}
+use Rattle.riscv32imc_predicate.specs.Tracking.{Call, program, space, rest, IsAt, Goes, Ends, Comes, Readies}
+
+-- a fetch at a pc, whatever the steps are
+abbrev pub Fetches : List ℕ → List ℕ → ℕ → Tested Fetched → Type 0
+Fetches image rows pc t = (steps : ℕ) → t ≡ fetch (inputs firstInput lanes) standingCore (seen image rows) steps pc
+
+-- the code has a fetched instruction before it
+pub record Has (f : Fetched) (pc : ℕ) (r : Progress) : Type 0 where
+  pub more : r .more ≡ true
+  pub same-word : r .word ≡ f .word
+  pub same-length : r .length ≡ f .length
+  pub same-action : r .action ≡ meaning (f .operation) pc
+  pub reads : r .reading ≡ readingOf (r .action)
 
 module _ (image rows : List ℕ) (place : Place) (r : Progress) where
   -- without an instruction, how the run ends
-  ends : (q : Ending) → r .more ≡ false → r .ending ≡ q
-      → ((symbols : Rv32SymbolLayout) (n : ℕ) (lent : List ℕ) (s : LaneState) → place .pc ≡ s .pc → place .steps ≡ s .steps
-      → memoryOf (program image symbols n lent) (space image symbols n lent) s ≡ seen image rows → Ends image symbols n lent q s)
-      → Readies image rows place r
-  ends q m e h symbols n lent s a b c =
-      subst (λ (x : Bool). Comes image symbols n lent x r s) (sym m) (subst (λ (x : Ending). Ends image symbols n lent x s) (sym e) (h symbols n lent s a b c))
+  ends : (q : Ending) → r .more ≡ false → r .ending ≡ q → ((c : Call) (s : LaneState) → IsAt c image rows place s → Ends c q s) → Readies image rows place r
+  ends q m e h c s a = subst (λ (x : Bool). Comes c x r s) (sym m) (subst (λ (x : Ending). Ends c x s) (sym e) (h c s a))
 
   pub comes-stop : r .more ≡ false → r .ending ≡ ending.Arrived → place .pc ≡ stop → Readies image rows place r
-  comes-stop m e h = ends ending.Arrived m e (λ symbols n lent s a b c. eq-eqb _ _ (sym a ∙ h))
+  comes-stop m e h = ends ending.Arrived m e (λ c s a. eq-eqb _ _ (sym (a .at-pc) ∙ h))
 
   module _ (moving : place .pc ≡ stop → ⊥) where
     off-stop : (s : LaneState) → place .pc ≡ s .pc → eqb (s .pc) stop ≡ false
@@ -47,37 +53,32 @@ module _ (image rows : List ℕ) (place : Place) (r : Progress) where
     pub comes-bound : r .more ≡ false → r .ending ≡ ending.Refused error.StepLimit → maxSteps ≤ place .steps → Readies image rows place r
     unfolding refuse
     comes-bound m e h =
-        ends (ending.Refused error.StepLimit) m e (λ symbols n lent s a b c.
-        let none : maxSteps - s .steps ≡ 0 = omega (arith, b, h) in
-        rw none (run-out (program image symbols n lent) (space image symbols n lent) s (off-stop s a)))
+        ends (ending.Refused error.StepLimit) m e (λ c s a.
+        let none : maxSteps - s .steps ≡ 0 = omega (arith, a .at-steps, h) in
+        rw none (run-out (program c) (space c) s (off-stop s (a .at-pc))))
 
-    module _ (below : place .steps < maxSteps) where
-      pub comes-refused : (x : Rv32Error) → r .more ≡ false → r .ending ≡ ending.Refused x
-          → ((steps : ℕ) → refused (refusalOf x) ≡ fetch (inputs firstInput lanes) standingCore (seen image rows) steps (place .pc)) → Readies image rows place r
-      unfolding step look _>>=_ standing setup
-      comes-refused x m e f =
-          ends (ending.Refused x) m e (λ symbols n lent s a b c.
-          let fuel : maxSteps - s .steps ≡ suc (maxSteps - suc (s .steps)) = omega (arith, b, below) in
-          let q : fetch (inputs firstInput lanes) standingCore (memoryOf (program image symbols n lent) (space image symbols n lent) s) (s .steps) (s .pc) ≡ refused (refusalOf x)
-          = rw (c, ← a) (sym (f (s .steps))) in
-          let t : step (program image symbols n lent) (space image symbols n lent) s ≡ refused (refusalOf x) = rw q in
-          rw fuel (run-refused (program image symbols n lent) (space image symbols n lent) (maxSteps - suc (s .steps)) s (refusalOf x) (off-stop s a) t))
+-- short of stop and of the bound
+module _ (image rows : List ℕ) (place : Place) (r : Progress) (short : (place .pc ≡ stop → ⊥) × (place .steps < maxSteps)) where
+  pub comes-refused : {x : Rv32Error} → r .more ≡ false → r .ending ≡ ending.Refused x → Fetches image rows (place .pc) (refused (refusalOf x)) → Readies image rows place r
+  unfolding step attempt _>>=_ standing setup
+  comes-refused {x} m e f =
+      ends image rows place r (ending.Refused x) m e (λ c s a.
+      let fuel : maxSteps - s .steps ≡ suc (maxSteps - suc (s .steps)) = omega (arith, a .at-steps, short .1) in
+      let q : fetch (inputs firstInput lanes) standingCore (memoryOf (program c) (space c) s) (s .steps) (s .pc) ≡ refused (refusalOf x)
+      = rw (a .shown, ← (a .at-pc)) (sym (f (s .steps))) in
+      let t : step (program c) (space c) s ≡ refused (refusalOf x) = rw q in
+      rw fuel (run-refused (program c) (space c) (maxSteps - suc (s .steps)) s (refusalOf x) (off-stop image rows place r (short .0) s (a .at-pc)) t))
 
-      pub comes-next : (f : Fetched) → r .more ≡ true
-          → ((steps : ℕ) → passed f ≡ fetch (inputs firstInput lanes) standingCore (seen image rows) steps (place .pc))
-          → r .word ≡ f .word → r .length ≡ f .length → meaningOf (r .action) ≡ meaning (f .operation) (place .pc)
-          → r .rs1 ≡ firstSource (r .action) → r .rs2 ≡ secondSource (r .action) → r .computation ≡ computationOf (r .action) → Readies image rows place r
-      unfolding standing setup
-      comes-next f m q w z d x y k symbols n lent s a b c =
-          subst (λ (k : Bool). Comes image symbols n lent k r s) (sym m) (record {
-            moving = off-stop s a;
-            below = omega (arith, b, below);
-            instruction = f;
-            fetched = rw (c, ← a) (sym (q (s .steps)));
-            same-word = w;
-            same-length = z;
-            same-action = d ∙ ap (meaning (f .operation)) a;
-            first = x;
-            second = y;
-            computes = k;
-          })
+  pub comes-next : (f : Fetched) → Fetches image rows (place .pc) (passed f) → Has f (place .pc) r → Readies image rows place r
+  unfolding standing setup
+  comes-next f q h c s a =
+      subst (λ (k : Bool). Comes c k r s) (sym (h .more)) (record {
+        moving = off-stop image rows place r (short .0) s (a .at-pc);
+        below = omega (arith, a .at-steps, short .1);
+        instruction = f;
+        fetched = rw (a .shown, ← (a .at-pc)) (sym (q (s .steps)));
+        same-word = h .same-word;
+        same-length = h .same-length;
+        same-action = h .same-action ∙ ap (meaning (f .operation)) (a .at-pc);
+        reads = h .reads;
+      })

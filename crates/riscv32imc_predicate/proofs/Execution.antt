@@ -12,34 +12,38 @@ use Rattle.lane_word.specs.declared.LaneWord.{LaneWord}
 use Rattle.lane_word.specs.declared.Uniform.{Uniform}
 use Rattle.lane_word.specs.Word.{constant, unary, binary, inputs, uniformOf}
 use Rattle.lane_word.proofs.Tab.{length-inputs}
-use Rattle.lane_word.proofs.Told.{binary-constant}
+use Rattle.lane_word.proofs.ToldLaws.{binary-constant}
 use Rattle.predicate_semantics.specs.Choice.{choose}
-use Rattle.predicate_semantics.specs.Meaning as meaning
+use Rattle.predicate_action.specs.declared.Action.the-variants as action
+use Rattle.predicate_action.specs.declared.Extension.{Extension}
+use Rattle.predicate_action.specs.Meaning.{extensionOf}
+use Rattle.riscv32imc.specs.declared.arithmetic.Binary.{Binary}
+use Rattle.riscv32imc.specs.Value.{valueOf}
 use Rattle.predicate_semantics.specs.Program.{Program, imageEnd}
 use Rattle.predicate_semantics.specs.State.{Effect, goes, sets, stores}
 use Rattle.predicate_semantics.specs.Memory.{write}
 use Rattle.predicate_semantics.specs.Refusal.{Tested, passed, refused, _>>=_, require}
-use Rattle.predicate_semantics.specs.Lane.{LaneState, Setup, lanes, reg, operand, inside, agreed, access, execute}
+use Rattle.predicate_semantics.specs.Lane.{LaneState, Setup, laneCount, reg, inside, agreedAs, agreed, access, roomFor, execute}
 use Rattle.lane_memory.specs.declared.Found.{Found}
 use Rattle.lane_memory.specs.declared.Found.the-variants.{At, Free, Full}
 use Rattle.lane_memory.specs.Rows.{rowCount, findRow, newAt, newBytes}
 use Rattle.lane_access.specs.declared.Verdict.{Verdict}
 use Rattle.lane_access.specs.Seen.{seen}
-use Rattle.lane_access.specs.Answers.{verdictOf, testedAs}
+use Rattle.lane_access.specs.Answers.{verdictOf}
 use Rattle.lane_access.proofs.Laws.{inside-fits, agreed-is}
-use Rattle.riscv32imc_predicate.specs.Changes.{Given, roomFor}
+use Rattle.riscv32imc_predicate.specs.Changes.{Given, Sources}
 
 -- a verdict is what the code matched it with
 pub verdict-is : {r v : Verdict} {t : Tested (Unit {0})} → r ≡ v → verdictOf r ≡ t → t ≡ verdictOf v
 verdict-is e h = sym h ∙ ap verdictOf e
 
 -- a uniform test of a computed word, by what is told of it
-pub tested-both : (role : ℕ) (u : Uniform) (f : ℕ → ℕ → ℕ) (left right : LaneWord) → u ≡ uniformOf (binary f left right)
-    → testedAs role u ≡ agreed role (binary f left right)
-tested-both role u f left right h = ap (testedAs role) h ∙ sym (agreed-is role (binary f left right))
+tested-both : (role : ℕ) (u : Uniform) (f : ℕ → ℕ → ℕ) (left right : LaneWord) → u ≡ uniformOf (binary f left right)
+    → agreedAs role u ≡ agreed role (binary f left right)
+tested-both role u f left right h = ap (agreedAs role) h ∙ sym (agreed-is role (binary f left right))
 
-pub tested-number : (role : ℕ) (u : Uniform) (f : ℕ → ℕ → ℕ) (n : ℕ) (left : LaneWord) → length (left .values) ≡ Word.lanes
-    → u ≡ uniformOf (binary f left (constant Word.lanes n)) → testedAs role u ≡ agreed role (unary (λ v. f v n) left)
+tested-number : (role : ℕ) (u : Uniform) (f : ℕ → ℕ → ℕ) (n : ℕ) (left : LaneWord) → length (left .values) ≡ Word.lanes
+    → u ≡ uniformOf (binary f left (constant Word.lanes n)) → agreedAs role u ≡ agreed role (unary (λ v. f v n) left)
 tested-number role u f n left e h =
     tested-both role u f left (constant Word.lanes n) h ∙ ap (agreed role) (binary-constant f Word.lanes n left e)
 
@@ -55,70 +59,89 @@ new-most rows zero a = omega arith
 new-most rows (suc n) a = omega (arith, new-most rows n a, new-one (findRow rows ((a + n) % 2 ^ 32)))
 
 module _ {p : Program} {l : Setup} {s : LaneState} {image rows : List ℕ} {written : ℕ} (g : Given p l s image rows written) (next : ℕ) where
-  lane-count : lanes p l ≡ Word.lanes
-  unfolding lanes
-  lane-count = rw (g .lanes) (length-inputs Word.firstInput Word.lanes)
+  lane-count : laneCount p l ≡ Word.lanes
+  unfolding laneCount
+  lane-count = rw (g .same-inputs) (length-inputs Word.firstInput Word.lanes)
 
-  pub literal-is : (rd v : ℕ) → execute p l s next (meaning.literal rd v) ≡ passed (sets rd (constant Word.lanes v) next)
+  pub nothing-is : execute p l s next action.Nothing ≡ passed (goes next)
+  unfolding execute
+  nothing-is = refl
+
+  pub literal-is : (rd v : ℕ) → execute p l s next (action.Literal rd v) ≡ passed (sets rd (constant Word.lanes v) next)
   unfolding execute
   literal-is rd v = rw lane-count
 
-  pub jump-is : (rd to : ℕ) → execute p l s next (meaning.jump rd to) ≡ passed (sets rd (constant Word.lanes next) to)
+  pub jump-is : (rd to : ℕ) → execute p l s next (action.Jump rd to) ≡ passed (sets rd (constant Word.lanes next) to)
   unfolding execute
   jump-is rd to = rw lane-count
 
   -- once the range is known, the rows that a store would fill are those that the code counts
-  after-range : (right : LaneWord) (n address : ℕ) (k : Unit {0} → Tested (Effect LaneWord)) (t : Tested (Unit {0})) → inside address n ≡ t
-      → (t >>= λ _. require 11 (leb (imageEnd p) address) >>= λ _. require 13 (leb (length (write (s .memory) n address right)) (l .rows)) >>= k)
-      ≡ (t >>= λ _. require 11 (leb (imageBase + length image) address) >>= λ _. require 13 (leb (written + newBytes rows n address) (rowCount rows))) >>= k
-  unfolding _>>=_
-  after-range right n address k (refused r) e = refl
-  after-range right n address k (passed _) e =
-      let f = inside-fits address n e in
-      rw (g .is-image, g .lent, g .room n address right (omega (arith, f .1))) (bound (require 11 (leb (imageBase + length image) address)))
+  room-is : (right : LaneWord) (n address : ℕ)
+      → roomFor (imageEnd p) (l .rows) address n (length (write (s .memory) n address right))
+      ≡ roomFor (imageBase + length image) (rowCount rows) address n (written + newBytes rows n address)
+  unfolding roomFor _>>=_
+  room-is right n address = go (inside address n) refl
     where
-      bound : (t : Tested (Unit {0})) → (t >>= λ _. require 13 (leb (written + newBytes rows n address) (rowCount rows)) >>= k)
-          ≡ (t >>= λ _. require 13 (leb (written + newBytes rows n address) (rowCount rows))) >>= k
-      bound (passed _) = refl
-      bound (refused r) = refl
+      go : (t : Tested (Unit {0})) → inside address n ≡ t
+          → (t >>= λ _. require 11 (leb (imageEnd p) address) >>= λ _. require 13 (leb (length (write (s .memory) n address right)) (l .rows)))
+          ≡ (t >>= λ _. require 11 (leb (imageBase + length image) address) >>= λ _. require 13 (leb (written + newBytes rows n address) (rowCount rows)))
+      go (refused r) e = refl
+      go (passed _) e = rw (g .is-image, g .lent, g .room n address right (omega (arith, inside-fits address n e .1)))
 
   after-address : (right : LaneWord) (n : ℕ) (t : Tested ℕ)
-      → (t >>= λ address. inside address n >>= λ _. require 11 (leb (imageEnd p) address) >>= λ _.
-      require 13 (leb (length (write (s .memory) n address right)) (l .rows)) >>= λ _. passed (stores address n right next))
-      ≡ (t >>= λ address. roomFor address n (length image) rows written >>= λ _. passed (stores address n right next))
+      → (t >>= λ address. roomFor (imageEnd p) (l .rows) address n (length (write (s .memory) n address right)) >>= λ _. passed (stores address n right next))
+      ≡ (t >>= λ address. roomFor (imageBase + length image) (rowCount rows) address n (written + newBytes rows n address) >>= λ _. passed (stores address n right next))
   unfolding _>>=_
   after-address right n (refused r) = refl
-  after-address right n (passed address) = after-range right n address (λ _. passed (stores address n right next)) (inside address n) refl
+  after-address right n (passed address) = rw (room-is right n address)
 
-  module _ (a : ℕ) {left : LaneWord} (x : reg p l s a ≡ left) where
-    pub immediate-is : (rd : ℕ) (f : ℕ → ℕ → ℕ) (n : ℕ) → execute p l s next (meaning.compute rd f a (meaning.immediate n)) ≡ passed (sets rd (binary f left (constant Word.lanes n)) next)
-    unfolding execute operand
-    immediate-is rd f n = rw (x, lane-count)
-
-    -- the rest of a form follows what its lanes agree on
-    pub jump-to-is : (rd offset : ℕ) (t : Tested ℕ) → t ≡ agreed 2 (unary (λ v. target v offset) left)
-        → execute p l s next (meaning.jumpTo rd a offset) ≡ (t >>= λ to. require 10 (ltb 0 to) >>= λ _. passed (sets rd (constant Word.lanes next) to))
+  -- the forms with sources: the rest follows what the lanes agree on
+  module _ {left right : LaneWord} {tested : Uniform} where
+    pub compute-is : {rd a b : ℕ} {f : Binary} → Sources p l s (action.Compute rd f a b) left right tested
+        → execute p l s next (action.Compute rd f a b) ≡ passed (sets rd (binary (valueOf f) left right) next)
     unfolding execute
-    jump-to-is rd offset t e = rw (e, x, lane-count)
+    compute-is {rd} {a} {b} {f} o =
+        let x : reg p l s a ≡ left = o .first in
+        let y : reg p l s b ≡ right = o .second in
+        rw (x, y)
 
-    pub load-is : (rd offset n : ℕ) (f : ℕ → ℕ) (t : Tested ℕ) → t ≡ agreed 3 (unary (λ v. add v offset) left)
-        → execute p l s next (meaning.load rd a offset n f)
-        ≡ (t >>= λ address. access (inputs Word.firstInput Word.lanes) (seen image rows) n address >>= λ w. passed (sets rd (unary f w) next))
+    pub immediate-is : {rd a n : ℕ} {f : Binary} → Sources p l s (action.ComputeImmediate rd f a n) left right tested
+        → execute p l s next (action.ComputeImmediate rd f a n) ≡ passed (sets rd (binary (valueOf f) left (constant Word.lanes n)) next)
     unfolding execute
-    load-is rd offset n f t e = rw (e, x, g .bytes, g .lanes)
+    immediate-is {rd} {a} {n} {f} o = let x : reg p l s a ≡ left = o .first in rw (x, lane-count)
 
-    module _ (b : ℕ) {right : LaneWord} (y : reg p l s b ≡ right) where
-      pub compute-is : (rd : ℕ) (f : ℕ → ℕ → ℕ) → execute p l s next (meaning.compute rd f a (meaning.register b)) ≡ passed (sets rd (binary f left right) next)
-      unfolding execute operand
-      compute-is rd f = rw (x, y)
+    pub jump-to-is : {rd a offset : ℕ} → Sources p l s (action.JumpTo rd a offset) left right tested
+        → execute p l s next (action.JumpTo rd a offset) ≡ (agreedAs 2 tested >>= λ to. require 10 (ltb 0 to) >>= λ _. passed (sets rd (constant Word.lanes next) to))
+    unfolding execute
+    jump-to-is {rd} {a} {offset} o =
+        let x : reg p l s a ≡ left = o .first in
+        let e : agreedAs 2 tested ≡ agreed 2 (unary (λ v. target v offset) left) = tested-number 2 tested target offset left (o .left-size) (o .told) in
+        rw (x, lane-count, ← e)
 
-      pub branch-is : (f : ℕ → ℕ → ℕ) (to : ℕ) (t : Tested ℕ) → t ≡ agreed 5 (binary f left right)
-          → execute p l s next (meaning.branch f a b to) ≡ (t >>= λ direction. passed (goes (choose (eqb direction 0) (λ _. next) (λ _. to))))
-      unfolding execute
-      branch-is f to t e = rw (e, x, y)
+    pub branch-is : {a b to : ℕ} {f : Binary} → Sources p l s (action.Branch f a b to) left right tested
+        → execute p l s next (action.Branch f a b to) ≡ (agreedAs 5 tested >>= λ direction. passed (goes (choose (eqb direction 0) (λ _. next) (λ _. to))))
+    unfolding execute
+    branch-is {a} {b} {to} {f} o =
+        let x : reg p l s a ≡ left = o .first in
+        let y : reg p l s b ≡ right = o .second in
+        let e : agreedAs 5 tested ≡ agreed 5 (binary (valueOf f) left right) = tested-both 5 tested (valueOf f) left right (o .told) in
+        rw (x, y, ← e)
 
-      pub store-is : (offset n : ℕ) (t : Tested ℕ) → t ≡ agreed 4 (unary (λ v. add v offset) left)
-          → execute p l s next (meaning.store a b offset n)
-          ≡ (t >>= λ address. roomFor address n (length image) rows written >>= λ _. passed (stores address n right next))
-      unfolding execute
-      store-is offset n t e = rw (x, y, ← e) (after-address right n t)
+    pub load-is : {rd a offset n : ℕ} {e : Extension} → Sources p l s (action.Load rd a offset n e) left right tested
+        → execute p l s next (action.Load rd a offset n e)
+        ≡ (agreedAs 3 tested >>= λ address. access (inputs Word.firstInput Word.lanes) (seen image rows) n address >>= λ w. passed (sets rd (unary (extensionOf e) w) next))
+    unfolding execute
+    load-is {rd} {a} {offset} {n} {e} o =
+        let x : reg p l s a ≡ left = o .first in
+        let h : agreedAs 3 tested ≡ agreed 3 (unary (λ v. add v offset) left) = tested-number 3 tested add offset left (o .left-size) (o .told) in
+        rw (x, g .bytes, g .same-inputs, ← h)
+
+    pub store-is : {a b offset n : ℕ} → Sources p l s (action.Store a b offset n) left right tested
+        → execute p l s next (action.Store a b offset n)
+        ≡ (agreedAs 4 tested >>= λ address. roomFor (imageBase + length image) (rowCount rows) address n (written + newBytes rows n address) >>= λ _. passed (stores address n right next))
+    unfolding execute
+    store-is {a} {b} {offset} {n} o =
+        let x : reg p l s a ≡ left = o .first in
+        let y : reg p l s b ≡ right = o .second in
+        let e : agreedAs 4 tested ≡ agreed 4 (unary (λ v. add v offset) left) = tested-number 4 tested add offset left (o .left-size) (o .told) in
+        rw (x, y, ← e) (after-address right n (agreedAs 4 tested))

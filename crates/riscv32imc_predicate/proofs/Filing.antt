@@ -9,18 +9,17 @@ use lib.Dec.{eqb, ltb}
 use lib.ListN.{length, getD, set, replicate, length-set, length-replicate}
 use lib.Seq.{getD-set-same, getD-set-other, set-out}
 use Rattle.lane_word.specs.declared.LaneWord.{LaneWord}
-use Rattle.lane_word.specs.declared.Uniform.{Uniform}
-use Rattle.lane_word.specs.declared.Uniform.the-variants.{Value, Unknown, Uneven}
+use Rattle.lane_word.specs.declared.Told.{Told}
+use Rattle.lane_word.specs.declared.Told.the-variants.{Value, Lanes}
 use Rattle.lane_word.specs.Word.{constant, unknown, domain, inputs, firstInput, lanes}
 use Rattle.lane_word.proofs.Tab.{length-inputs}
 use Rattle.lane_word.specs.Told.{wordOf}
-use Rattle.lane_word.proofs.Told.{constant-size}
+use Rattle.lane_word.proofs.ToldLaws.{constant-size}
 use Rattle.predicate_semantics.specs.Choice.{choose}
 use Rattle.predicate_semantics.specs.State.{fill, atStart, assign}
-use Rattle.predicate_action.specs.declared.Computation.{Computation}
-use Rattle.predicate_action.specs.Computation.{operandOf}
-use Rattle.riscv32imc_predicate.specs.Tracking.{startRegisters}
-use Rattle.riscv32imc_predicate.specs.Register.{heldWords, Held, startTold, slotOf, operandTold, placeOf, laidOut}
+use Rattle.predicate_action.specs.declared.Reading.{Reading}
+use Rattle.predicate_action.specs.Reading.{operandOf}
+use Rattle.riscv32imc_predicate.specs.Register.{registerCount, firstOperand, secondOperand, unread, places, heldWords, Held, startRegisters, startTold, slotOf, operandTold, placeOf, laidOut}
 
 -- ---- lists
 
@@ -30,7 +29,7 @@ read-any [] i d e h = absurd (omega arith)
 read-any (x ∷ xs) zero d e h = refl
 read-any (x ∷ xs) (suc i) d e h = read-any xs i d e (omega arith)
 
-held-both : (n : ℕ) (us : List Uniform) (ws : List LaneWord) (i : ℕ) (u : Uniform) (w : LaneWord)
+held-both : (n : ℕ) (us : List Told) (ws : List LaneWord) (i : ℕ) (u : Told) (w : LaneWord)
     → heldWords n (set us i u) (set ws i w) ≡ set (heldWords n us ws) i (wordOf u w)
 unfolding heldWords
 held-both zero us ws i u w = refl
@@ -40,7 +39,7 @@ held-both (suc n) (x ∷ us) [] (suc i) u w = refl
 held-both (suc n) (x ∷ us) (y ∷ ws) zero u w = refl
 held-both (suc n) (x ∷ us) (y ∷ ws) (suc i) u w = ap (λ (l : List LaneWord). wordOf x y ∷ l) (held-both n us ws i u w)
 
-held-told : (n : ℕ) (us : List Uniform) (ws : List LaneWord) (i v : ℕ) → heldWords n (set us i (Value v)) ws ≡ set (heldWords n us ws) i (constant lanes v)
+held-told : (n : ℕ) (us : List Told) (ws : List LaneWord) (i v : ℕ) → heldWords n (set us i (Value v)) ws ≡ set (heldWords n us ws) i (constant lanes v)
 unfolding heldWords
 held-told zero us ws i v = refl
 held-told (suc n) [] ws i v = refl
@@ -49,7 +48,7 @@ held-told (suc n) (x ∷ us) [] (suc i) v = refl
 held-told (suc n) (x ∷ us) (y ∷ ws) zero v = refl
 held-told (suc n) (x ∷ us) (y ∷ ws) (suc i) v = ap (λ (l : List LaneWord). wordOf x y ∷ l) (held-told n us ws i v)
 
-held-beyond : (n : ℕ) (us : List Uniform) (ws : List LaneWord) (i : ℕ) (w : LaneWord) → n ≤ i → heldWords n us (set ws i w) ≡ heldWords n us ws
+held-beyond : (n : ℕ) (us : List Told) (ws : List LaneWord) (i : ℕ) (w : LaneWord) → n ≤ i → heldWords n us (set ws i w) ≡ heldWords n us ws
 unfolding heldWords
 held-beyond zero us ws i w h = refl
 held-beyond (suc n) [] ws i w h = refl
@@ -57,115 +56,113 @@ held-beyond (suc n) (x ∷ us) [] i w h = refl
 held-beyond (suc n) (x ∷ us) (y ∷ ws) zero w h = absurd (omega arith)
 held-beyond (suc n) (x ∷ us) (y ∷ ws) (suc i) w h = ap (λ (l : List LaneWord). wordOf x y ∷ l) (held-beyond n us ws i w (omega arith))
 
-held-read : (n : ℕ) (us : List Uniform) (ws : List LaneWord) (k : ℕ) (d : LaneWord) (e : Uniform) (f : LaneWord) → k < n → n ≤ length us → n ≤ length ws
+held-read : (n : ℕ) (us : List Told) (ws : List LaneWord) (k : ℕ) (d : LaneWord) (e : Told) (f : LaneWord) → (k < n) × (n ≤ length us) × (n ≤ length ws)
     → getD (heldWords n us ws) k d ≡ wordOf (getD us k e) (getD ws k f)
 unfolding heldWords
-held-read zero us ws k d e f h a b = absurd (omega arith)
-held-read (suc n) [] ws k d e f h a b = absurd (omega arith)
-held-read (suc n) (x ∷ us) [] k d e f h a b = absurd (omega arith)
-held-read (suc n) (x ∷ us) (y ∷ ws) zero d e f h a b = refl
-held-read (suc n) (x ∷ us) (y ∷ ws) (suc k) d e f h a b = held-read n us ws k d e f (omega arith) (omega arith) (omega arith)
+held-read zero us ws k d e f h = absurd (omega (arith, h .0))
+held-read (suc n) [] ws k d e f h = absurd (omega (arith, h .1))
+held-read (suc n) (x ∷ us) [] k d e f h = absurd (omega (arith, h .2))
+held-read (suc n) (x ∷ us) (y ∷ ws) zero d e f h = refl
+held-read (suc n) (x ∷ us) (y ∷ ws) (suc k) d e f h = held-read n us ws k d e f (omega (arith, h .0), omega (arith, h .1), omega (arith, h .2))
 
 -- ---- where a register is set
 
-assign-slot : (xs : List LaneWord) (rd : ℕ) (v : LaneWord) → length xs ≡ 32 → set xs (slotOf rd) v ≡ assign xs rd v
+assign-slot : (xs : List LaneWord) (rd : ℕ) (v : LaneWord) → length xs ≡ registerCount → set xs (slotOf rd) v ≡ assign xs rd v
 unfolding assign
-assign-slot xs zero v e = set-out xs 34 v (omega (arith, e))
-assign-slot xs (suc r) v e = rw (ne-eqb (suc r) 0 (λ q. omega arith)) (go (ltb (suc r) 32) refl)
+assign-slot xs zero v e = set-out xs unread v (omega (arith, e))
+assign-slot xs (suc r) v e = rw (ne-eqb (suc r) 0 (λ q. omega arith)) (go (ltb (suc r) registerCount) refl)
   where
-    go : (b : Bool) → ltb (suc r) 32 ≡ b → set xs (cond b (suc r) 34) v ≡ set xs (suc r) v
+    go : (b : Bool) → ltb (suc r) registerCount ≡ b → set xs (cond b (suc r) unread) v ≡ set xs (suc r) v
     go true q = refl
-    go false q = set-out xs 34 v (omega (arith, e)) ∙ sym (set-out xs (suc r) v (omega (arith, e, ltb-false (suc r) 32 q)))
+    go false q = set-out xs unread v (omega (arith, e)) ∙ sym (set-out xs (suc r) v (omega (arith, e, ltb-false (suc r) registerCount q)))
 
-pub slot-below : (rd : ℕ) → slotOf rd < 35
-slot-below rd = go (eqb rd 0) (ltb rd 32) refl
+pub slot-below : (rd : ℕ) → slotOf rd < places
+slot-below rd = go (eqb rd 0) (ltb rd registerCount) refl
   where
-    go : (b c : Bool) → ltb rd 32 ≡ c → cond b 34 (cond c rd 34) < 35
+    go : (b c : Bool) → ltb rd registerCount ≡ c → cond b unread (cond c rd unread) < places
     go true c q = omega arith
-    go false true q = omega (arith, ltb-true rd 32 q)
+    go false true q = omega (arith, ltb-true rd registerCount q)
     go false false q = omega arith
 
 -- ---- changes
 
-sized-set : (ws : List LaneWord) (i : ℕ) (w : LaneWord) → length ws ≡ 35 → i < 35 → length (w .values) ≡ lanes
-    → ((k : ℕ) → k < 35 → length (getD ws k (unknown lanes) .values) ≡ lanes) → (k : ℕ) → k < 35 → length (getD (set ws i w) k (unknown lanes) .values) ≡ lanes
+-- every word has its lanes
+abbrev Sized : List LaneWord → Type 0
+Sized ws = (k : ℕ) → k < places → length (getD ws k (unknown lanes) .values) ≡ lanes
+
+sized-set : (ws : List LaneWord) (i : ℕ) (w : LaneWord) → length ws ≡ places → i < places → length (w .values) ≡ lanes → Sized ws → Sized (set ws i w)
 sized-set ws i w e b s f k h = go (eqb k i) refl
   where
     go : (c : Bool) → eqb k i ≡ c → length (getD (set ws i w) k (unknown lanes) .values) ≡ lanes
     go true q = rw (eqb-true k i q, getD-set-same ws i w (unknown lanes) (omega (arith, e, b))) s
     go false q = rw (getD-set-other ws i k w (unknown lanes) (λ z. eqb-false k i q z)) (f k h)
 
-module _ {told : List Uniform} {words registers : List LaneWord} (h : Held told words registers) where
+module _ {told : List Told} {words registers : List LaneWord} (h : Held told words registers) where
   -- a register that is read
-  pub held-source : (k : ℕ) (d : LaneWord) (e : Uniform) (f : LaneWord) → k < 32 → getD registers k d ≡ wordOf (getD told k e) (getD words k f)
-  held-source k d e f b = rw (← (h .same)) (held-read 32 told words k d e f b (omega (arith, h .told-size)) (omega (arith, h .words-size)))
+  pub held-source : (k : ℕ) (d : LaneWord) (e : Told) (f : LaneWord) → k < registerCount → getD registers k d ≡ wordOf (getD told k e) (getD words k f)
+  held-source k d e f b = rw (← (h .same)) (held-read registerCount told words k d e f (b, omega (arith, h .told-size), omega (arith, h .words-size)))
 
-  pub held-lanes : (k : ℕ) (d : LaneWord) → k < 35 → length (getD words k d .values) ≡ lanes
-  held-lanes k d b = rw (read-any words k d (unknown lanes) (omega (arith, h .words-size))) (h .lanes k b)
+  pub held-lanes : (k : ℕ) (d : LaneWord) → k < places → length (getD words k d .values) ≡ lanes
+  held-lanes k d b = rw (read-any words k d (unknown lanes) (omega (arith, h .words-size))) (h .sized k b)
 
   -- a register that is set, by one value
   pub held-value : (rd v : ℕ) → Held (set told (slotOf rd) (Value v)) words (assign registers rd (constant lanes v))
   held-value rd v = record {
     told-size = length-set told (slotOf rd) (Value v) ∙ h .told-size;
     words-size = h .words-size;
-    lanes = h .lanes;
+    sized = h .sized;
     size = ap length (sym (assign-slot registers rd (constant lanes v) (h .size))) ∙ length-set registers (slotOf rd) (constant lanes v) ∙ h .size;
     same =
-        held-told 32 told words (slotOf rd) v
+        held-told registerCount told words (slotOf rd) v
         ∙ ap (λ (l : List LaneWord). set l (slotOf rd) (constant lanes v)) (h .same)
         ∙ assign-slot registers rd (constant lanes v) (h .size);
   }
 
   -- by a word and what is told of it
-  pub held-word : (rd : ℕ) (u : Uniform) (w : LaneWord) → length (w .values) ≡ lanes
+  pub held-word : (rd : ℕ) (u : Told) (w : LaneWord) → length (w .values) ≡ lanes
       → Held (set told (slotOf rd) u) (set words (slotOf rd) w) (assign registers rd (wordOf u w))
   held-word rd u w s = record {
     told-size = length-set told (slotOf rd) u ∙ h .told-size;
     words-size = length-set words (slotOf rd) w ∙ h .words-size;
-    lanes = sized-set words (slotOf rd) w (h .words-size) (slot-below rd) s (h .lanes);
+    sized = sized-set words (slotOf rd) w (h .words-size) (slot-below rd) s (h .sized);
     size = ap length (sym (assign-slot registers rd (wordOf u w) (h .size))) ∙ length-set registers (slotOf rd) (wordOf u w) ∙ h .size;
     same =
-        held-both 32 told words (slotOf rd) u w
+        held-both registerCount told words (slotOf rd) u w
         ∙ ap (λ (l : List LaneWord). set l (slotOf rd) (wordOf u w)) (h .same)
         ∙ assign-slot registers rd (wordOf u w) (h .size);
   }
 
   -- a value that is laid out past the registers
-  pub held-laid : (u : Uniform) (own : ℕ) → 32 ≤ own → own < 35 → Held told (laidOut u own words) registers
+  pub held-laid : (u : Told) (own : ℕ) → registerCount ≤ own → own < places → Held told (laidOut u own words) registers
   held-laid (Value v) own a b = record {
     told-size = h .told-size;
     words-size = length-set words own (constant lanes v) ∙ h .words-size;
-    lanes = sized-set words own (constant lanes v) (h .words-size) b (constant-size lanes v) (h .lanes);
+    sized = sized-set words own (constant lanes v) (h .words-size) b (constant-size lanes v) (h .sized);
     size = h .size;
-    same = held-beyond 32 told words own (constant lanes v) a ∙ h .same;
+    same = held-beyond registerCount told words own (constant lanes v) a ∙ h .same;
   }
-  held-laid Unknown own a b = h
-  held-laid Uneven own a b = h
+  held-laid Lanes own a b = h
 
   -- is the operand's word there
-  pub laid-read : (u : Uniform) (k own : ℕ) (d e : LaneWord) → k < 35 → own < 35 → getD (laidOut u own words) (placeOf u k own) d ≡ wordOf u (getD words k e)
+  pub laid-read : (u : Told) (k own : ℕ) (d e : LaneWord) → k < places → own < places → getD (laidOut u own words) (placeOf u k own) d ≡ wordOf u (getD words k e)
   laid-read (Value v) k own d e a b = getD-set-same words own (constant lanes v) d (omega (arith, h .words-size))
-  laid-read Unknown k own d e a b = read-any words k d e (omega (arith, h .words-size))
-  laid-read Uneven k own d e a b = read-any words k d e (omega (arith, h .words-size))
+  laid-read Lanes k own d e a b = read-any words k d e (omega (arith, h .words-size))
 
 -- another operand's place
-pub laid-other : (words : List LaneWord) (u : Uniform) (k own : ℕ) (d : LaneWord) → (k ≡ own → ⊥) → getD (laidOut u own words) k d ≡ getD words k d
+pub laid-other : (words : List LaneWord) (u : Told) (k own : ℕ) (d : LaneWord) → (k ≡ own → ⊥) → getD (laidOut u own words) k d ≡ getD words k d
 laid-other words (Value v) k own d n = getD-set-other words own k (constant lanes v) d n
-laid-other words Unknown k own d n = refl
-laid-other words Uneven k own d n = refl
+laid-other words Lanes k own d n = refl
 
-pub place-below : (u : Uniform) (k own : ℕ) → k < 35 → own < 35 → placeOf u k own < 35
+pub place-below : (u : Told) (k own : ℕ) → k < places → own < places → placeOf u k own < places
 place-below (Value v) k own a b = b
-place-below Unknown k own a b = a
-place-below Uneven k own a b = a
+place-below Lanes k own a b = a
 
-pub place-apart : (u : Uniform) (k : ℕ) → k < 32 → placeOf u k 32 ≡ 33 → ⊥
+pub place-apart : (u : Told) (k : ℕ) → k < registerCount → placeOf u k firstOperand ≡ secondOperand → ⊥
 place-apart (Value v) k a e = omega arith
-place-apart Unknown k a e = omega arith
-place-apart Uneven k a e = omega arith
+place-apart Lanes k a e = omega arith
 
 -- the second operand's word
-pub operand-word : (c : Computation) (u : Uniform) (w : LaneWord) → wordOf (operandTold c u) w ≡ operandOf c (wordOf u w)
+pub operand-word : (c : Reading) (u : Told) (w : LaneWord) → wordOf (operandTold c u) w ≡ operandOf c (wordOf u w)
 operand-word c u w = go (c .immediate)
   where
     go : (b : Bool) → wordOf (cond b (Value (c .operand)) u) w ≡ cond b (constant lanes (c .operand)) (wordOf u w)
@@ -187,14 +184,14 @@ domain-size : length (domain (inputs firstInput lanes) .values) ≡ lanes
 unfolding domain
 domain-size = length-inputs firstInput lanes
 
-pub start-held : Held startTold (set (replicate 35 (unknown lanes)) 10 (domain (inputs firstInput lanes))) startRegisters
+pub start-held : Held startTold (set (replicate places (unknown lanes)) 10 (domain (inputs firstInput lanes))) startRegisters
 unfolding heldWords fill atStart choose
 start-held = record {
   told-size = refl;
   words-size = refl;
-  lanes =
-      sized-set (replicate 35 (unknown lanes)) 10 (domain (inputs firstInput lanes)) refl (omega arith) domain-size
-      (λ k h. rw (same-replicate 35 k (unknown lanes)) (unknown-size lanes));
+  sized =
+      sized-set (replicate places (unknown lanes)) 10 (domain (inputs firstInput lanes)) refl (omega arith) domain-size
+      (λ k h. rw (same-replicate places k (unknown lanes)) (unknown-size lanes));
   size = refl;
   same = refl;
 }

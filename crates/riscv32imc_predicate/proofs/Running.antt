@@ -19,11 +19,11 @@ use Rattle.predicate_semantics.specs.declared.CompiledMmioEvent.{CompiledMmioEv
 use Rattle.predicate_semantics.specs.declared.PredicateTransducerExecution.{PredicateTransducerExecution}
 use Rattle.predicate_semantics.specs.declared.Rv32SymbolLayout.{Rv32SymbolLayout}
 use Rattle.predicate_semantics.specs.Choice.{choose}
-use Rattle.predicate_semantics.specs.Program.{stop, stopWord, sized, placed, inMemory}
+use Rattle.predicate_semantics.specs.Program.{stop, stopWord, maxEvents, eventStride, memoryEnd, sized, symbolsPlaced, inMemory}
 use Rattle.predicate_semantics.specs.State.{Result}
 use Rattle.predicate_semantics.specs.Memory.{put, write}
 use Rattle.predicate_semantics.specs.Refusal.{Refusal, Tested, passed, refused, _>>=_, ifPassed, refuse, require}
-use Rattle.predicate_semantics.specs.Lane.{LaneState, Ended, lanes, on, run, after, begin, start, laneRun, reached, laneOperations, writtenBytes, execution, finish}
+use Rattle.predicate_semantics.specs.Lane.{LaneState, Ended, laneCount, on, run, after, begin, startTests, start, laneRun, reached, laneOperations, writtenBytes, execution, finish}
 use Rattle.predicate_semantics.specs.Standing.{standing, setup, standingLaneRun}
 use Rattle.predicate_semantics.specs.Blank.{noExecution, noEvents}
 use Rattle.predicate_semantics.proofs.Laws.{run-stop}
@@ -42,13 +42,15 @@ use Rattle.riscv32imc_predicate.specs.declared.Place.{Place}
 use Rattle.riscv32imc_predicate.specs.declared.Ending.{Ending}
 use Rattle.riscv32imc_predicate.specs.declared.Ending.the-variants as ending
 use Rattle.riscv32imc_predicate.specs.declared.Progress.{Progress}
+use Rattle.riscv32imc_predicate.specs.declared.Recorded.{Recorded}
 use Rattle.riscv32imc_predicate.specs.declared.Reached.{Reached}
 use Rattle.riscv32imc_predicate.specs.declared.PredicateAnswer.the-variants as answer
 use Rattle.riscv32imc_predicate.specs.declared.PredicateRun.{PredicateRun}
-use Rattle.riscv32imc_predicate.specs.Tracking.{entryCount, program, space, rest, Tracks, Ends, Ready, Readies, Begins, Arrives, startTested, startPlace}
+use Rattle.riscv32imc_predicate.specs.Tracking.{entryCount, Call, called, program, space, first, rest, Tracks, IsAt, Ends, Ready, Readied, Begins, Arrives, startPlace}
 use Rattle.riscv32imc_predicate.specs.Finishing.{Answers}
-use Rattle.riscv32imc_predicate.specs.Outcome.{refusedRun, runOver, Tells, Runs}
-use Rattle.riscv32imc_predicate.proofs.Following.{sees}
+use Rattle.riscv32imc_predicate.specs.Outcome.{runOver}
+use Rattle.riscv32imc_predicate.specs.Reporting.{refusedRun, Reports, Counts, Runs}
+use Rattle.riscv32imc_predicate.proofs.Following.{is-at}
 
 pub off : (b : Bool) → not b ≡ true → b ≡ false
 off true e = sym e
@@ -62,49 +64,50 @@ pub positive : (n : ℕ) → (n ≡ 0 → ⊥) → ltb 0 n ≡ true
 positive zero h = absurd (h refl)
 positive (suc n) h = lt-ltb 0 (suc n) (omega arith)
 
--- ---- what is told of an answer
+-- ---- what is reported of an answer
 
-module _ (image : List ℕ) (symbols : Rv32SymbolLayout) (n entries : ℕ) (s : LaneState) where
-  pub told-refused : (t : Tested Result) (x : Rv32Error) (k : ℕ) → k ≡ s .steps → t ≡ refused (refusalOf x)
-      → (r : PredicateRun) → r ≡ refusedRun x k → Tells image symbols n entries s t r
-  told-refused t x k e q r h = rw (q, h) (record { says = refl; completed = e; numbers = refl; found = refl })
+abbrev resultAt : LaneState → ℕ → List CompiledMmioEvent → Result
+resultAt s value found = record { returnValue = value; steps = s .steps; trace = s .trace; events = found }
 
-  -- the numbers of an accepted run, as the code has them
-  abbrev pub numbersOf : ℕ → ℕ → ℕ → ℕ → PredicateTransducerExecution
-  numbersOf value k written recorded = record {
-    «first_input» = 6;
-    «lane_count» = Word.lanes;
-    «return_value» = value;
-    «symbolic_transitions» = k;
-    «lane_value_operations» = mul Word.lanes k;
-    «sparse_memory_bytes» = written;
-    «event_count» = recorded % 256;
-  }
+-- the numbers of an accepted run, as the code has them
+abbrev numbersOf : Place → Recorded → ℕ → PredicateTransducerExecution
+numbersOf place noted value = record {
+  «first_input» = Word.firstInput;
+  «lane_count» = Word.lanes;
+  «return_value» = value;
+  «symbolic_transitions» = place .steps;
+  «lane_value_operations» = mul Word.lanes (place .steps);
+  «sparse_memory_bytes» = place .written;
+  «event_count» = noted .count % 256;
+}
 
-  abbrev resultOf : ℕ → List CompiledMmioEvent → Result
-  resultOf value found = record { returnValue = value; steps = s .steps; trace = s .trace; events = found }
+module _ (c : Call) (s : LaneState) where
+  pub reports-refused : (t : Tested Result) (x : Rv32Error) (k : ℕ) → k ≡ s .steps → t ≡ refused (refusalOf x)
+      → {r : PredicateRun} → r ≡ refusedRun x k → Reports c s t r
+  reports-refused t x k e q h = rw (q, h) (record { says = refl; completed = e; numbers = refl; found = refl })
 
-  numbers-are : (value k written recorded : ℕ) (found : List CompiledMmioEvent) → k ≡ s .steps → k ≤ 1000000 → written ≡ length (s .memory)
-      → recorded ≡ length (s .locations) → length found ≡ length (s .locations) → length found ≤ 32
-      → numbersOf value k written recorded ≡ execution (standing image symbols) (setup n entries) s (resultOf value found)
-  unfolding execution lanes laneOperations writtenBytes setup inputs
-  numbers-are value k written recorded found e b w r f few =
-      let o : mul Word.lanes k ≡ Word.lanes * s .steps = mod-eq-of-lt (omega (arith, b)) ∙ ap (λ (x : ℕ). Word.lanes * x) e in
-      let c : recorded % 256 ≡ length found = mod-eq-of-lt (omega (arith, r, f, few)) ∙ r ∙ sym f in
-      rw (o, c, w, e) refl
+  module _ {place : Place} {noted : Recorded} (at : Counts place noted s) where
+    numbers-are : (value : ℕ) (found : List CompiledMmioEvent) → length found ≡ length (s .locations) → length found ≤ maxEvents
+        → numbersOf place noted value ≡ execution (program c) (space c) s (resultAt s value found)
+    unfolding execution laneCount laneOperations writtenBytes setup inputs
+    numbers-are value found f few =
+        let o : mul Word.lanes (place .steps) ≡ Word.lanes * s .steps
+        = mod-eq-of-lt (omega (arith, at .same-steps, at .bounded)) ∙ ap (λ (x : ℕ). Word.lanes * x) (at .same-steps) in
+        let n : noted .count % 256 ≡ length found = mod-eq-of-lt (omega (arith, at .same-count, f, few)) ∙ at .same-count ∙ sym f in
+        rw (o, n, at .same-written, at .same-steps) refl
 
-  pub told-accepted : (value k written recorded : ℕ) (found events : List CompiledMmioEvent) → k ≡ s .steps → k ≤ 1000000 → written ≡ length (s .memory)
-      → recorded ≡ length (s .locations) → events ≡ over found noEvents → finish (standing image symbols) (setup n entries) s ≡ passed (resultOf value found)
-      → Tells image symbols n entries s (finish (standing image symbols) (setup n entries) s)
-      (record { answer = answer.Accepted; steps = k; execution = numbersOf value k written recorded; events = events })
-  told-accepted value k written recorded found events e b w r z q =
-      let f = events-located (standing image symbols) (setup n entries) s (resultOf value found) q in
-      rw q (record {
-        says = (resultOf value found, refl);
-        completed = e;
-        numbers = numbers-are value k written recorded found e b w r (f .0) (f .1);
-        found = z;
-      })
+    pub reports-accepted : (value : ℕ) (found events : List CompiledMmioEvent) → events ≡ over found noEvents
+        → finish (program c) (space c) s ≡ passed (resultAt s value found)
+        → Reports c s (finish (program c) (space c) s)
+        (record { answer = answer.Accepted; steps = place .steps; execution = numbersOf place noted value; events = events })
+    reports-accepted value found events z q =
+        let f = events-located (program c) (space c) s (resultAt s value found) q in
+        rw q (record {
+          says = (resultAt s value found, refl);
+          completed = at .same-steps;
+          numbers = numbers-are value found (f .0) (f .1);
+          found = z;
+        })
 
 -- ---- before any step
 
@@ -113,49 +116,35 @@ four : (w : LaneWord) → 4 ≡ length (write [] 4 stop w)
 unfolding write put choose
 four w = refl
 
-module _ (image : List ℕ) (symbols : Rv32SymbolLayout) (n : ℕ) (lent : List ℕ) where
-  start-is : start (program image symbols n lent) (space image symbols n lent)
-      ≡ (startTested (length image) symbols n >>= λ _. passed (begin (program image symbols n lent) (space image symbols n lent)))
-  unfolding start sized standing setup _>>=_ require refuse
-  start-is = go (ltb 0 (length image) && leb (length image) maxImageBytes) (placed symbols) (leb 4 n)
-    where
-      go : (a b c : Bool)
-          → (require 1 a >>= λ _. require 2 b >>= λ _. require 13 c >>= λ _. passed (begin (program image symbols n lent) (space image symbols n lent)))
-          ≡ ((require 1 a >>= λ _. require 2 b >>= λ _. require 13 c) >>= λ _. passed (begin (program image symbols n lent) (space image symbols n lent)))
-      go true true c = refl
-      go true false c = refl
-      go false b c = refl
-
+module _ (c : Call) where
   -- refused before any step
-  pub run-refused-first : (q : Refusal) → startTested (length image) symbols n ≡ refused q
-      → standingLaneRun image symbols n (entryCount lent) ≡ record { state = begin (program image symbols n lent) (space image symbols n lent); answer = refused q }
-  unfolding standingLaneRun laneRun on _>>=_
-  run-refused-first q h = rw (start-is, h)
+  pub run-refused-first : (q : Refusal) → startTests (length (c .image)) (c .symbols) (c .rows) ≡ refused q
+      → standingLaneRun (c .image) (c .symbols) (c .rows) (entryCount (c .trace)) ≡ record { state = first c; answer = refused q }
+  unfolding standingLaneRun laneRun on start standing setup _>>=_
+  run-refused-first q h = rw h
 
-  module _ (h : startTested (length image) symbols n ≡ passed tt) where
-    started : start (program image symbols n lent) (space image symbols n lent) ≡ passed (begin (program image symbols n lent) (space image symbols n lent))
-    unfolding _>>=_
-    started = rw (start-is, h)
+  module _ (h : startTests (length (c .image)) (c .symbols) (c .rows) ≡ passed tt) where
+    started : start (program c) (space c) ≡ passed (first c)
+    unfolding start standing setup _>>=_
+    started = rw h
 
-    pub run-is-rest : standingLaneRun image symbols n (entryCount lent) ≡ rest image symbols n lent (begin (program image symbols n lent) (space image symbols n lent))
+    pub run-is-rest : standingLaneRun (c .image) (c .symbols) (c .rows) (entryCount (c .trace)) ≡ rest c (first c)
     unfolding standingLaneRun laneRun on begin
     run-is-rest = rw started
 
-    kept-first : Kept (program image symbols n lent) (space image symbols n lent) (begin (program image symbols n lent) (space image symbols n lent))
-    kept-first = kept-start (program image symbols n lent) (space image symbols n lent) _ started .0
+    kept-first : Kept (program c) (space c) (first c)
+    kept-first = kept-start (program c) (space c) _ started .0
 
     -- the stop word is stored
-    pub begin-tracks : (rows : List ℕ) → Holds rows n []
-        → Tracks image symbols n lent (startPlace (symbols .entry)) (storeValues rows 4 stop stopWord) lent
-        (begin (program image symbols n lent) (space image symbols n lent))
-    unfolding begin standing setup lanes reached after ifPassed
+    pub begin-tracks : (rows : List ℕ) → Holds rows (c .rows) [] → Tracks c (startPlace (c .symbols .entry)) (storeValues rows 4 stop stopWord) (c .trace) (first c)
+    unfolding begin standing setup laneCount reached after ifPassed
     begin-tracks rows k = record {
       reached = rw started;
       same-pc = refl;
       same-steps = refl;
       bounded = omega arith;
       holds = rw (length-inputs Word.firstInput Word.lanes) (holds-store-value k 4 stop stopWord (omega arith) (rw (length-inputs Word.firstInput Word.lanes) at (kept-first .stored .most)));
-      above = above-write (imageBase + length image) 4 stop (constant (length (inputs Word.firstInput Word.lanes)) stopWord) [] (omega (arith, kept-first .fits .1)) tt;
+      above = above-write (imageBase + length (c .image)) 4 stop (constant (length (inputs Word.firstInput Word.lanes)) stopWord) [] (omega (arith, kept-first .fits .1)) tt;
       same-written = four (constant (length (inputs Word.firstInput Word.lanes)) stopWord);
       traced = refl;
     }
@@ -167,9 +156,9 @@ and-right true b q = q
 and-right false true q = refl
 and-right false false q = q
 
-placed-true : (size : ℕ) (symbols : Rv32SymbolLayout) (n : ℕ) → startTested size symbols n ≡ passed tt → placed symbols ≡ true
-unfolding _>>=_ require refuse
-placed-true size symbols n = go (ltb 0 size && leb size maxImageBytes) (placed symbols) (leb 4 n)
+placed-true : (size : ℕ) (symbols : Rv32SymbolLayout) (n : ℕ) → startTests size symbols n ≡ passed tt → symbolsPlaced symbols ≡ true
+unfolding startTests _>>=_ require refuse
+placed-true size symbols n = go (sized size) (symbolsPlaced symbols) (leb 4 n)
   where
     go : (a b c : Bool) → (require 1 a >>= λ _. require 2 b >>= λ _. require 13 c) ≡ passed tt → b ≡ true
     go true true c q = refl
@@ -177,56 +166,56 @@ placed-true size symbols n = go (ltb 0 size && leb size maxImageBytes) (placed s
     go false b c q = absurd (no-pass q)
 
 -- every event lies below 2^32
-pub events-low : (size : ℕ) (symbols : Rv32SymbolLayout) (n : ℕ) → startTested size symbols n ≡ passed tt → symbols .events + 384 ≤ 2 ^ 32
-unfolding placed inMemory
+pub events-low : (size : ℕ) (symbols : Rv32SymbolLayout) (n : ℕ) → startTests size symbols n ≡ passed tt → symbols .events + maxEvents * eventStride ≤ 2 ^ 32
+unfolding symbolsPlaced inMemory
 events-low size symbols n h =
     let e : ℕ = symbols .events in
-    let m = and-right (inMemory (symbols .entry) && inMemory (symbols .«event_count»)) (leb imageBase e && ltb e 0x80200000) (placed-true size symbols n h) in
-    omega (arith, ltb-true e 0x80200000 (and-right (leb imageBase e) (ltb e 0x80200000) m))
+    let m = and-right (inMemory (symbols .entry) && inMemory (symbols .«event_count»)) (leb imageBase e && ltb e memoryEnd) (placed-true size symbols n h) in
+    omega (arith, ltb-true e memoryEnd (and-right (leb imageBase e) (ltb e memoryEnd) m))
 
 module _ (image : List ℕ) (symbols : Rv32SymbolLayout) (rows trace : List ℕ) where
+  -- over as many rows
+  recalled : (rows′ : List ℕ) → rowCount rows′ ≡ rowCount rows → called image symbols rows′ trace ≡ called image symbols rows trace
+  recalled rows′ e = rw e
+
   -- the loop's start
-  pub begins : Holds rows (rowCount rows) [] → startTested (length image) symbols (rowCount rows) ≡ passed tt
-      → (rows′ : List ℕ) → rows′ ≡ storeValues rows 4 stop stopWord
-      → (first : Progress) (place : Place) → first .place ≡ place → place ≡ startPlace (symbols .entry) → Readies image rows′ place first
-      → Begins image symbols rows′ trace first × (rowCount rows′ ≡ rowCount rows)
-  begins h k rows′ e first place o q r =
-      let s : LaneState = begin (program image symbols (rowCount rows) trace) (space image symbols (rowCount rows) trace) in
-      let t : Tracks image symbols (rowCount rows) trace (first .place) rows′ trace s = rw (o, q, e) (begin-tracks image symbols (rowCount rows) trace k rows h) in
+  pub begins : Holds rows (rowCount rows) [] × (startTests (length image) symbols (rowCount rows) ≡ passed tt)
+      → {rows′ : List ℕ} → rows′ ≡ storeValues rows 4 stop stopWord
+      → (progress : Progress) → Readied image rows′ (startPlace (symbols .entry)) progress
+      → Begins (called image symbols rows′ trace) rows′ progress × (rowCount rows′ ≡ rowCount rows)
+  begins (h, k) {rows′} e progress r =
+      let c : Call = called image symbols rows trace in
+      let t : Tracks c (progress .place) rows′ trace (first c) = rw (r .0, e) (begin-tracks c k rows h) in
       let same : rowCount rows′ ≡ rowCount rows = t .holds .rows in (
-        subst
-            (λ (n : ℕ).
-            Tracks image symbols n trace (first .place) rows′ trace (begin (program image symbols n trace) (space image symbols n trace))
-            × Ready image symbols n trace first (begin (program image symbols n trace) (space image symbols n trace)))
-            (sym same) (t, r symbols (rowCount rows) trace s (rw (← o) (t .same-pc)) (rw (← o) (t .same-steps)) (sees image symbols (rowCount rows) trace t)),
+        subst (λ (d : Call). Tracks d (progress .place) rows′ (d .trace) (first d) × Ready d progress (first d))
+            (sym (recalled rows′ same)) (t, r .1 c (first c) (subst (λ (p : Place). IsAt c image rows′ p (first c)) (r .0) (is-at t))),
         same,
       )
 
-  module _ (r : PredicateRun) (rows′ trace′ : List ℕ) (e : Ended) (same : runOver image symbols rows trace ≡ e) where
-    pub runs-as : Tells image symbols (rowCount rows) (entryCount trace) (e .state) (e .answer) r → trace′ ≡ over (traceBytes (e .state .trace)) trace
-        → cleared rows′ ≡ cleared rows → Runs image symbols rows trace r rows′ trace′
-    runs-as t b c = record { tells = rw same t; entries = rw same b; same-rows = c }
+  pub runs-as : (e : Ended) → runOver image symbols rows trace ≡ e → {r : PredicateRun} {rows′ trace′ : List ℕ}
+      → Reports (called image symbols rows trace) (e .state) (e .answer) r → (trace′ ≡ over (traceBytes (e .state .trace)) trace) × (cleared rows′ ≡ cleared rows)
+      → Runs image symbols rows trace r rows′ trace′
+  runs-as e same t b = record { reports = rw same t; entries = rw same (b .0); same-rows = b .1 }
 
   -- the loop ended over as many rows
-  pub arrives : {n : ℕ} (q : Reached) (rows″ trace″ : List ℕ) → n ≡ rowCount rows → Arrives image symbols n trace q rows″ trace″
-      → Arrives image symbols (rowCount rows) trace q rows″ trace″
-  arrives q rows″ trace″ z a = subst (λ (m : ℕ). Arrives image symbols m trace q rows″ trace″) z a
+  pub arrives : (rows₁ : List ℕ) {q : Reached} {rows″ trace″ : List ℕ} → rowCount rows₁ ≡ rowCount rows → Arrives (called image symbols rows₁ trace) q rows″ trace″
+      → Arrives (called image symbols rows trace) q rows″ trace″
+  arrives rows₁ {q} {rows″} {trace″} z a = subst (λ (d : Call). Arrives d q rows″ trace″) (recalled rows₁ z) a
 
-  -- where the loop ended
-  module _
-      (k : startTested (length image) symbols (rowCount rows) ≡ passed tt) (q : Reached) (rows″ trace″ : List ℕ)
-      (a : Arrives image symbols (rowCount rows) trace q rows″ trace″)
-    where
-      pub ended-refused : (x : Rv32Error) → q .progress .ending ≡ ending.Refused x
-          → runOver image symbols rows trace ≡ record { state = a .state; answer = refused (refusalOf x) }
-      ended-refused x e =
-          run-is-rest image symbols (rowCount rows) trace k ∙ a .same-rest
-          ∙ subst (λ (y : Ending). Ends image symbols (rowCount rows) trace y (a .state)) e (a .ends)
+-- where the loop ended
+module _ {c : Call} {q : Reached} {rows trace : List ℕ} (k : startTests (length (c .image)) (c .symbols) (c .rows) ≡ passed tt) (a : Arrives c q rows trace) where
+  pub ended-refused : (x : Rv32Error) → q .progress .ending ≡ ending.Refused x
+      → standingLaneRun (c .image) (c .symbols) (c .rows) (entryCount (c .trace)) ≡ record { state = a .state; answer = refused (refusalOf x) }
+  ended-refused x e = run-is-rest c k ∙ a .same-rest ∙ subst (λ (y : Ending). Ends c y (a .state)) e (a .ends)
 
-      pub ended-arrived : q .progress .ending ≡ ending.Arrived
-          → runOver image symbols rows trace
-          ≡ record { state = a .state; answer = finish (program image symbols (rowCount rows) trace) (space image symbols (rowCount rows) trace) (a .state) }
-      ended-arrived e =
-          run-is-rest image symbols (rowCount rows) trace k ∙ a .same-rest
-          ∙ run-stop (program image symbols (rowCount rows) trace) (space image symbols (rowCount rows) trace) _ (a .state)
-          (subst (λ (y : Ending). Ends image symbols (rowCount rows) trace y (a .state)) e (a .ends))
+  pub ended-arrived : q .progress .ending ≡ ending.Arrived
+      → standingLaneRun (c .image) (c .symbols) (c .rows) (entryCount (c .trace)) ≡ record { state = a .state; answer = finish (program c) (space c) (a .state) }
+  ended-arrived e = run-is-rest c k ∙ a .same-rest ∙ run-stop (program c) (space c) _ (a .state) (subst (λ (y : Ending). Ends c y (a .state)) e (a .ends))
+
+  pub counts : Counts (q .progress .place) (q .recorded) (a .state)
+  counts = record {
+    same-steps = a .tracks .same-steps;
+    bounded = a .tracks .bounded;
+    same-written = a .tracks .same-written;
+    same-count = a .keeps .0;
+  }

@@ -6,62 +6,81 @@ use Prim.Native.Nat.{ℕ, zero, suc, _+_, _≤_, _<_, _^_}
 use lib.Dec.{eqb, ltb}
 use lib.ListN.{length, getD, set, replicate}
 use Rattle.lane_word.specs.declared.LaneWord.{LaneWord}
-use Rattle.lane_word.specs.declared.Uniform.{Uniform}
-use Rattle.lane_word.specs.declared.Uniform.the-variants.{Value, Unknown, Uneven}
-use Rattle.lane_word.specs.Word.{constant, unknown, unary, lanes}
+use Rattle.lane_word.specs.declared.Told.{Told}
+use Rattle.lane_word.specs.declared.Told.the-variants.{Value, Lanes}
+use Rattle.lane_word.specs.Word.{constant, unknown, domain, inputs, unary, firstInput, lanes}
 use Rattle.lane_word.specs.Told.{wordOf}
 use Rattle.predicate_semantics.specs.Program.{stop, stackPointer}
+use Rattle.predicate_semantics.specs.State.{fill, atStart}
 use Rattle.predicate_semantics.specs.Memory.{Written, read, write}
 use Rattle.predicate_semantics.specs.Refusal.{passed}
 use Rattle.predicate_semantics.specs.Lane.{inside}
 use Rattle.predicate_action.specs.declared.Extension.{Extension}
-use Rattle.predicate_action.specs.declared.Computation.{Computation}
-use Rattle.predicate_action.specs.Action.{extensionOf}
+use Rattle.predicate_action.specs.declared.Reading.{Reading}
+use Rattle.predicate_action.specs.Meaning.{extensionOf}
 use Rattle.lane_memory.specs.Rows.{newBytes, cleared}
 use Rattle.lane_memory.specs.Holds.{Holds}
 use Rattle.lane_access.specs.Seen.{seen}
-use Rattle.riscv32imc_predicate.specs.Tracking.{startRegisters}
+
+-- the registers' words, then those of two operands that are one value, and what is set in x0
+abbrev pub registerCount : ℕ
+registerCount = 32
+
+abbrev pub firstOperand : ℕ
+firstOperand = registerCount
+
+abbrev pub secondOperand : ℕ
+secondOperand = registerCount + 1
+
+abbrev pub unread : ℕ
+unread = registerCount + 2
+
+abbrev pub places : ℕ
+places = registerCount + 3
 
 -- the words of the first n places
-unfoldable pub heldWords : ℕ → List Uniform → List LaneWord → List LaneWord
+unfoldable pub heldWords : ℕ → List Told → List LaneWord → List LaneWord
 heldWords zero us ws = []
 heldWords (suc n) [] ws = []
 heldWords (suc n) (u ∷ us) [] = []
 heldWords (suc n) (u ∷ us) (w ∷ ws) = wordOf u w ∷ heldWords n us ws
 
--- 35 places hold the 32 registers; every word has its lanes
-pub record Held (told : List Uniform) (words registers : List LaneWord) : Type 0 where
-  pub told-size : length told ≡ 35
-  pub words-size : length words ≡ 35
-  pub lanes : (k : ℕ) → k < 35 → length (getD words k (unknown lanes) .values) ≡ lanes
-  pub size : length registers ≡ 32
-  pub same : heldWords 32 told words ≡ registers
+-- the places hold the registers; every word has its lanes
+pub record Held (told : List Told) (words registers : List LaneWord) : Type 0 where
+  pub told-size : length told ≡ places
+  pub words-size : length words ≡ places
+  pub sized : (k : ℕ) → k < places → length (getD words k (unknown lanes) .values) ≡ lanes
+  pub size : length registers ≡ registerCount
+  pub same : heldWords registerCount told words ≡ registers
+
+-- `Control step`: four registers are known before any step, no other
+abbrev pub startRegisters : List LaneWord
+startRegisters =
+    fill registerCount 0 (atStart (constant lanes 0) (constant lanes stop) (constant lanes stackPointer) (domain (inputs firstInput lanes)) (λ _. unknown lanes))
 
 -- x0, x1 and x2 are told by their values
-abbrev pub startTold : List Uniform
-startTold = set (set (set (replicate 35 Unknown) 0 (Value 0)) 1 (Value stop)) 2 (Value stackPointer)
+abbrev pub startTold : List Told
+startTold = set (set (set (replicate places Lanes) 0 (Value 0)) 1 (Value stop)) 2 (Value stackPointer)
 
 abbrev pub StartWords : List LaneWord → Type 0
 StartWords words = Held startTold words startRegisters
 
--- where a register is set: x0, and what is no register, at the last place
+-- where a register is set: x0, and what is no register, at the place that is not read
 abbrev pub slotOf : ℕ → ℕ
-slotOf rd = cond (eqb rd 0) 34 (cond (ltb rd 32) rd 34)
+slotOf rd = cond (eqb rd 0) unread (cond (ltb rd registerCount) rd unread)
 
 -- what is told of the second operand: a number, or the second source
-abbrev pub operandTold : Computation → Uniform → Uniform
-operandTold c u = cond (c .immediate) (Value (c .operand)) u
+abbrev pub operandTold : Reading → Told → Told
+operandTold r u = cond (r .immediate) (Value (r .operand)) u
 
 -- where an operand's word is, and the words once one value is laid out there
-abbrev pub placeOf : Uniform → ℕ → ℕ → ℕ
+abbrev pub placeOf : Told → ℕ → ℕ → ℕ
 placeOf (Value v) register own = own
-placeOf Unknown register own = register
-placeOf Uneven register own = register
+placeOf Lanes register own = register
 
-abbrev pub laidOut : Uniform → ℕ → List LaneWord → List LaneWord
+abbrev pub laidOut : Told → ℕ → List LaneWord → List LaneWord
 laidOut (Value v) own words = set words own (constant lanes v)
-laidOut Unknown own words = words
-laidOut Uneven own words = words
+laidOut Lanes own words = words
 
 -- a word's bytes are stored, some of them at new addresses
 pub record Stores (rows : List ℕ) (address width : ℕ) (w : LaneWord) (new : ℕ) (rows′ : List ℕ) : Type 0 where

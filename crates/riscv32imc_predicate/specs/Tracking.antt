@@ -1,30 +1,29 @@
 -- How the code's values follow a state of the semantics' run.
-use mathlib.Core.Bool.{Bool, true, false, _&&_}
+use mathlib.Core.Bool.{Bool, true, false}
 use mathlib.Core.Option.{some}
 use mathlib.Core.List.{List, [], _∷_, _++_}
 use mathlib.Core.Path.{_≡_}
-use Prim.Native.Nat.{ℕ, suc, _+_, _-_, _*_, _/_, _%_, _^_, _≤_, _<_}
-use lib.Dec.{eqb, leb, ltb}
+use Prim.Native.Nat.{ℕ, suc, _+_, _-_, _*_, _%_, _^_, _≤_, _<_}
+use lib.Dec.{eqb}
 use lib.ListN.{length, take, replicate}
 use Rattle.little_endian.specs.Lent.{over}
 use Rattle.riscv32imc.specs.Arithmetic.{add}
-use Rattle.riscv32imc.specs.Constants.{imageBase, maxImageBytes, maxSteps}
+use Rattle.riscv32imc.specs.Constants.{imageBase, maxSteps}
 use Rattle.riscv_decode.specs.declared.Fetched.{Fetched}
 use Rattle.lane_word.specs.declared.LaneWord.{LaneWord}
 use Rattle.lane_word.specs.declared.Uniform.{Uniform}
-use Rattle.lane_word.specs.Word.{unknown, constant, domain, inputs, firstInput, lanes}
+use Rattle.lane_word.specs.Word.{lanes}
 use Rattle.predicate_semantics.specs.declared.Rv32SymbolLayout.{Rv32SymbolLayout}
-use Rattle.predicate_semantics.specs.Meaning.{meaning}
-use Rattle.predicate_semantics.specs.Program.{Program, stop, stackPointer, maxEvents, placed}
-use Rattle.predicate_semantics.specs.State.{fill, atStart, assign, recorded}
+use Rattle.predicate_semantics.specs.Program.{Program, stop, maxEvents}
+use Rattle.predicate_semantics.specs.State.{recorded}
 use Rattle.predicate_semantics.specs.Memory.{LaneBytes}
-use Rattle.predicate_semantics.specs.Refusal.{Tested, passed, refused, _>>=_, require}
+use Rattle.predicate_semantics.specs.Refusal.{passed, refused}
 use Rattle.predicate_semantics.specs.Lane.{LaneState, Setup, memoryOf, reg, fetch, execute, run, begin}
 use Rattle.predicate_semantics.specs.Lane as Lane
 use Rattle.predicate_semantics.specs.Standing.{standing, setup}
 use Rattle.predicate_semantics.specs.Trace.{entryBytes, traceBytes, putEntry}
-use Rattle.predicate_action.specs.Action.{meaningOf, firstSource, secondSource}
-use Rattle.predicate_action.specs.Computation.{computationOf, computed}
+use Rattle.predicate_action.specs.Meaning.{meaning}
+use Rattle.predicate_action.specs.Reading.{readingOf, computed}
 use Rattle.lane_memory.specs.Rows.{rowCount}
 use Rattle.lane_memory.specs.Holds.{Holds}
 use Rattle.lane_access.specs.Seen.{seen, Above}
@@ -35,59 +34,67 @@ use Rattle.riscv32imc_predicate.specs.declared.Recorded.{Recorded}
 use Rattle.riscv32imc_predicate.specs.declared.Ending.{Ending}
 use Rattle.riscv32imc_predicate.specs.declared.Ending.the-variants as ending
 use Rattle.riscv32imc_predicate.specs.declared.Progress.{Progress}
-use Rattle.riscv32imc_predicate.specs.declared.Change.{Change}
-use Rattle.riscv32imc_predicate.specs.declared.Change.the-variants as change
-use Rattle.riscv32imc_predicate.specs.Changes.{changeOf, lastTested, Given, Sources}
+use Rattle.riscv32imc_predicate.specs.declared.Decision.{Decision}
+use Rattle.riscv32imc_predicate.specs.declared.Decision.the-variants as decision
+use Rattle.riscv32imc_predicate.specs.Changes.{decisionOf, lastTested, Fits, Given, Sources}
 use Rattle.riscv32imc_predicate.specs.declared.Reached.{Reached}
+pub use Rattle.riscv32imc_predicate.specs.Outcome.{entryCount}
 
--- "whole entries (13 bytes, as a 03 body)"
-abbrev pub entryCount : List ℕ → ℕ
-entryCount trace = length trace / entryBytes
-
--- "Keep the first 32 and count the others."
+-- the first locations are kept, all of them counted
 abbrev pub Keeps : Recorded → List ℕ → Type 0
 Keeps kept ls = (kept .count ≡ length ls) × (take (length ls) (kept .locations) ≡ take maxEvents ls)
 
--- a run of an image with its symbols, over n lent rows and a lent trace
-module _ (image : List ℕ) (symbols : Rv32SymbolLayout) (n : ℕ) (lent : List ℕ) where
-  abbrev pub program : Program
-  program = standing image symbols
+-- what a run is called with: an image, its symbols, the number of lent rows, and the lent trace
+pub record Call : Type 0 where
+  pub image : List ℕ
+  pub symbols : Rv32SymbolLayout
+  pub rows : ℕ
+  pub trace : List ℕ
 
-  abbrev pub space : Setup
-  space = setup n (entryCount lent)
+abbrev pub called : List ℕ → Rv32SymbolLayout → List ℕ → List ℕ → Call
+called image symbols rows trace = record { image = image; symbols = symbols; rows = rowCount rows; trace = trace }
 
-  -- the rest of the run from a state
-  abbrev pub rest : LaneState → Lane.Ended
-  rest s = run program space (maxSteps - s .steps) s
+abbrev pub program : Call → Program
+program c = standing (c .image) (c .symbols)
 
+abbrev pub space : Call → Setup
+space c = setup (c .rows) (entryCount (c .trace))
+
+-- the state before any step
+abbrev pub first : Call → LaneState
+first c = begin (program c) (space c)
+
+-- the rest of the run from a state
+abbrev pub rest : Call → LaneState → Lane.Ended
+rest c s = run (program c) (space c) (maxSteps - s .steps) s
+
+module _ (c : Call) where
   -- a place, rows and trace are those of a state that the run reaches
   pub record Tracks (place : Place) (rows trace : List ℕ) (s : LaneState) : Type 0 where
-    pub reached : Lane.reached program space (s .steps) ≡ some s
+    pub reached : Lane.reached (program c) (space c) (s .steps) ≡ some s
     pub same-pc : place .pc ≡ s .pc
     pub same-steps : place .steps ≡ s .steps
     pub bounded : s .steps ≤ maxSteps
-    pub holds : Holds rows n (s .memory)
-    pub above : Above (imageBase + length image) (s .memory)
+    pub holds : Holds rows (c .rows) (s .memory)
+    pub above : Above (imageBase + length (c .image)) (s .memory)
     pub same-written : place .written ≡ length (s .memory)
-    pub traced : trace ≡ over (traceBytes (s .trace)) lent
+    pub traced : trace ≡ over (traceBytes (s .trace)) (c .trace)
 
   -- a fetched instruction, with the run short of stop and of the bound
   pub record Goes (progress : Progress) (s : LaneState) : Type 0 where
     pub moving : eqb (s .pc) stop ≡ false
     pub below : s .steps < maxSteps
     pub instruction : Fetched
-    pub fetched : fetch (space .inputs) (program .core) (memoryOf program space s) (s .steps) (s .pc) ≡ passed instruction
+    pub fetched : fetch (space c .inputs) (program c .core) (memoryOf (program c) (space c) s) (s .steps) (s .pc) ≡ passed instruction
     pub same-word : progress .word ≡ instruction .word
     pub same-length : progress .length ≡ instruction .length
-    pub same-action : meaningOf (progress .action) ≡ meaning (instruction .operation) (s .pc)
-    pub first : progress .rs1 ≡ firstSource (progress .action)
-    pub second : progress .rs2 ≡ secondSource (progress .action)
-    pub computes : progress .computation ≡ computationOf (progress .action)
+    pub same-action : progress .action ≡ meaning (instruction .operation) (s .pc)
+    pub reads : progress .reading ≡ readingOf (progress .action)
 
   -- how the run ends at a state
   abbrev pub Ends : Ending → LaneState → Type 0
   Ends ending.Arrived s = eqb (s .pc) stop ≡ true
-  Ends (ending.Refused e) s = rest s ≡ record { state = s; answer = refused (refusalOf e) }
+  Ends (ending.Refused e) s = rest c s ≡ record { state = s; answer = refused (refusalOf e) }
 
   -- what comes at a state: a step, or the end
   abbrev pub Comes : Bool → Progress → LaneState → Type 0
@@ -97,24 +104,14 @@ module _ (image : List ℕ) (symbols : Rv32SymbolLayout) (n : ℕ) (lent : List 
   abbrev pub Ready : Progress → LaneState → Type 0
   Ready progress s = Comes (progress .more) progress s
 
-  -- a step from a state leads to another, from which the rest of the run is the same; a refused step stays
-  pub record Stepped (s : LaneState) (rd : ℕ) (value : LaneWord) (kept : Recorded) (progress : Progress) (rows trace : List ℕ) : Type 0 where
-    pub state : LaneState
-    pub tracks : Tracks (progress .place) rows trace state
-    pub ready : Ready progress state
-    pub keeps : Keeps kept (state .locations)
-    pub sets : state .registers ≡ assign (s .registers) rd value
-    pub same-rest : rest s ≡ rest state
-    pub later : progress .more ≡ true → state .steps ≡ suc (s .steps)
-
   -- the end of the loop
   pub record Arrives (r : Reached) (rows trace : List ℕ) : Type 0 where
     pub state : LaneState
     pub tracks : Tracks (r .progress .place) rows trace state
     pub keeps : Keeps (r .recorded) (state .locations)
     pub ends : Ends (r .progress .ending) state
-    pub return-word : r .x10 ≡ reg program space state 10
-    pub same-rest : rest (begin program space) ≡ rest state
+    pub return-word : r .x10 ≡ reg (program c) (space c) state 10
+    pub same-rest : rest c (first c) ≡ rest c state
 
 -- ---- the parts of a step
 
@@ -135,24 +132,32 @@ abbrev pub Located : Recorded → ℕ → ℕ → ℕ → ℕ → Recorded → T
 Located kept pc address width eventCount r =
     (ls : List ℕ) → length ls + 1 < 2 ^ 32 → Keeps kept ls → Keeps r (recorded eventCount pc address width ls)
 
+-- a place in a state whose memory image and rows show
+pub record IsAt (c : Call) (image rows : List ℕ) (place : Place) (s : LaneState) : Type 0 where
+  pub at-pc : place .pc ≡ s .pc
+  pub at-steps : place .steps ≡ s .steps
+  pub shown : memoryOf (program c) (space c) s ≡ seen image rows
+
 -- what comes at a place, in every state that is there
 abbrev pub Readies : List ℕ → List ℕ → Place → Progress → Type 0
-Readies image rows place r =
-    (symbols : Rv32SymbolLayout) (n : ℕ) (lent : List ℕ) (s : LaneState)
-    → place .pc ≡ s .pc → place .steps ≡ s .steps → memoryOf (program image symbols n lent) (space image symbols n lent) s ≡ seen image rows
-    → Ready image symbols n lent r s
+Readies image rows place r = (c : Call) (s : LaneState) → IsAt c image rows place s → Ready c r s
 
--- the last test leaves a change or refuses it
-abbrev pub LastTested : Change → ℕ → ℕ → Change → Type 0
-LastTested x steps entries y = (m : LaneBytes) (w r : LaneWord) → changeOf m w r y ≡ lastTested (changeOf m w r x) steps entries
+abbrev pub Readied : List ℕ → List ℕ → Place → Progress → Type 0
+Readied image rows place r = (r .place ≡ place) × Readies image rows place r
+
+-- the last test leaves a decision or refuses it
+abbrev pub LastTested : Decision → ℕ → ℕ → Decision → Type 0
+LastTested x steps entries y =
+    ((m : LaneBytes) (w r : LaneWord) → decisionOf m w r y ≡ lastTested (decisionOf m w r x) steps entries)
+    × ((u : Uniform) → Fits u x → Fits u y)
 
 -- a fetched step, in every state that the code is given, comes to the semantics' operation and the last test
-abbrev pub Decides : List ℕ → List ℕ → Progress → Uniform → ℕ → Change → Type 0
+abbrev pub Decides : List ℕ → List ℕ → Progress → Uniform → ℕ → Decision → Type 0
 Decides image rows progress tested entries x =
     (p : Program) (l : Setup) (s : LaneState) → Given p l s image rows (progress .place .written)
     → (left right : LaneWord) → Sources p l s (progress .action) left right tested
-    → changeOf (seen image rows) (computed (computationOf (progress .action)) left right) right x
-    ≡ lastTested (execute p l s (add (progress .place .pc) (progress .length)) (meaningOf (progress .action))) (progress .place .steps) entries
+    → decisionOf (seen image rows) (computed (readingOf (progress .action)) left right) right x
+    ≡ lastTested (execute p l s (add (progress .place .pc) (progress .length)) (progress .action)) (progress .place .steps) entries
 
 -- a step's entry in the trace, and the place after it
 pub record Completes (image rows : List ℕ) (progress : Progress) (next new : ℕ) (trace : List ℕ) (r : Progress) (trace′ : List ℕ) : Type 0 where
@@ -162,7 +167,7 @@ pub record Completes (image rows : List ℕ) (progress : Progress) (next new : �
     «instruction_bytes» = progress .length % 256;
     «next_program_counter» = next;
   })
-  pub placed : r .place ≡ movedTo (progress .place) next new
+  pub moves : r .place ≡ movedTo (progress .place) next new
   pub readies : Readies image rows (r .place) r
 
 -- what comes after a change: the step's entry and the next place, or the end
@@ -172,22 +177,11 @@ pub record Stays (progress : Progress) (e : Rv32Error) (trace : List ℕ) (r : P
   pub same-place : r .place ≡ progress .place
   pub same-trace : trace′ ≡ trace
 
-abbrev pub Follows : List ℕ → List ℕ → Progress → ℕ → List ℕ → Progress → List ℕ → Change → Type 0
-Follows image rows progress new trace r trace′ (change.Goes next) = Completes image rows progress next 0 trace r trace′
-Follows image rows progress new trace r trace′ (change.Sets rd v next) = Completes image rows progress next 0 trace r trace′
-Follows image rows progress new trace r trace′ (change.Computes rd next) = Completes image rows progress next 0 trace r trace′
-Follows image rows progress new trace r trace′ (change.Loads rd a n e next) = Completes image rows progress next 0 trace r trace′
-Follows image rows progress new trace r trace′ (change.Stores a n next) = Completes image rows progress next new trace r trace′
-Follows image rows progress new trace r trace′ (change.Refused e) = Stays progress e trace r trace′
+abbrev pub Follows : List ℕ → List ℕ → Progress → ℕ → List ℕ → Progress → List ℕ → Decision → Type 0
+Follows image rows progress new trace r trace′ (decision.Goes x next) = Completes image rows progress next new trace r trace′
+Follows image rows progress new trace r trace′ (decision.Refused e) = Stays progress e trace r trace′
 
 -- ---- before any step
-
--- 1, 2, and 13 where under four rows are lent, of an image of some size
-abbrev pub startTested : ℕ → Rv32SymbolLayout → ℕ → Tested (Unit {0})
-startTested size symbols n = do
-  _ ← require 1 (ltb 0 size && leb size maxImageBytes)
-  _ ← require 2 (placed symbols)
-  require 13 (leb 4 n)
 
 -- the place before any step: the stop word's four bytes are written
 abbrev pub startPlace : ℕ → Place
@@ -197,14 +191,6 @@ startPlace entry = record { pc = entry; steps = 0; written = 4 }
 abbrev pub startRecorded : Recorded
 startRecorded = record { count = 0; locations = replicate maxEvents 0 }
 
--- "x0 = 0, x1 = stop, x2 = 801FFFF0, x10 = the input; the rest are unknown"
-abbrev pub startRegisters : List LaneWord
-startRegisters =
-    fill 32 0 (atStart (constant lanes 0) (constant lanes stop) (constant lanes stackPointer) (domain (inputs firstInput lanes)) (λ _. unknown lanes))
-
 -- the code is where the run begins
-abbrev pub Begins : List ℕ → Rv32SymbolLayout → List ℕ → List ℕ → Progress → Type 0
-Begins image symbols rows trace first =
-    Tracks image symbols (rowCount rows) trace (first .place) rows trace
-    (begin (program image symbols (rowCount rows) trace) (space image symbols (rowCount rows) trace))
-    × Ready image symbols (rowCount rows) trace first (begin (program image symbols (rowCount rows) trace) (space image symbols (rowCount rows) trace))
+abbrev pub Begins : Call → List ℕ → Progress → Type 0
+Begins c rows progress = Tracks c (progress .place) rows (c .trace) (first c) × Ready c progress (first c)

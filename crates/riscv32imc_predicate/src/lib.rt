@@ -1,15 +1,18 @@
 // The lane run: an image executed once, with a lane for each input that names no channel.
-mod execute;
+mod decide;
 mod finish;
+mod follow;
+mod outcome;
+mod ready;
 mod run;
-mod step;
+mod start;
 
 ghost use Rattle.riscv32imc_predicate.specs.Outcome.{Ran};
 use lane_access::Rv32Error;
 use lane_word::LaneWord;
 use predicate_action::Action;
-use predicate_action::Computation;
 use predicate_action::Extension;
+use predicate_action::Reading;
 use predicate_semantics::CompiledMmioEvent;
 use predicate_semantics::MAX_EVENTS;
 use predicate_semantics::PredicateTransducerExecution;
@@ -21,32 +24,31 @@ pub const ENTRY_BYTES: usize = predicate_semantics::ENTRY_BYTES;
 // The most events, as a count of them.
 const EVENT_LIMIT: u32 = MAX_EVENTS as u32;
 
-// What an operation changes: a register, with one value for all lanes, with the word that is computed or with loaded lanes; bytes; or nothing.
+// What a step changes: nothing; a register, with one value for all lanes, with the word that is computed or with loaded lanes; or bytes.
 enum Change {
-    Goes {
-        next: u32,
-    },
+    Nothing,
     Sets {
         rd: u32,
         value: u32,
-        next: u32,
     },
     Computes {
         rd: u32,
-        next: u32,
     },
     Loads {
         rd: u32,
         address: u32,
         width: u32,
         extension: Extension,
-        next: u32,
     },
     Stores {
         address: u32,
         width: u32,
-        next: u32,
     },
+}
+
+// What an operation comes to: a change, and where the run goes on; or a refusal.
+enum Decision {
+    Goes { change: Change, next: u32 },
     Refused(Rv32Error),
 }
 
@@ -57,7 +59,7 @@ struct Place {
     written: u32,
 }
 
-// How many events were recorded, and where the first 32 of them were. Beside the place, which every step copies.
+// How many events were recorded, and where the first of them were. Beside the place, which every step copies.
 struct Recorded {
     count: u32,
     locations: [u32; MAX_EVENTS],
@@ -76,15 +78,23 @@ struct Progress {
     action: Action,
     word: u32,
     length: u32,
-    rs1: usize,
-    rs2: usize,
-    computation: Computation,
+    reading: Reading,
     place: Place,
 }
 
-// The registers' words, and three more: two operands that are one value, and what is written to x0.
+// Register numbers are below this. After the registers' words come those of two operands that are one value, and what is set in x0.
+const REGISTERS: usize = 32;
+
+const FIRST_OPERAND: usize = REGISTERS;
+
+const SECOND_OPERAND: usize = REGISTERS + 1;
+
+const UNREAD: usize = REGISTERS + 2;
+
+const PLACES: usize = REGISTERS + 3;
+
 struct Registers {
-    words: [LaneWord; 35],
+    words: [LaneWord; PLACES],
 }
 
 // Where the loop ends.
@@ -117,7 +127,7 @@ pub fn execute_invalid_channel_predicate(
     ensures { λ r. ⌜ Ran (now (image .entry)) symbols (now (rows .entry)) (now (trace .entry)) r (now (rows .exit)) (now (trace .exit)) ⌝ }
 {
     lane_memory::unmark(rows);
-    let outcome = run::run(image, symbols, rows, trace);
+    let outcome = outcome::run(image, symbols, rows, trace);
     lane_memory::clear(rows);
     outcome
 }

@@ -29,4 +29,4 @@ execute-invalid-channel-predicate-spec =
     (λ c.
     let b = unmarked-first c in
     let a = b .before .before .before .before .before .args in
-    ran (now (a .image)) (a .symbols) (now (a .rows)) (now (a .trace)) _ _ _ _ _ (b .unmark .ensures) (ran-of c .run .ensures) (cleared-last c .clear .ensures)))
+    ran (now (a .image)) (a .symbols) (now (a .rows)) (now (a .trace)) (b .unmark .ensures) (ran-of c .run .ensures) (cleared-last c .clear .ensures)))

@@ -4,7 +4,7 @@ use denote.Ref.{now}
 use Rattle.lane_word.specs.Word.{unary}
 use Rattle.lane_access.specs.Seen.{seen}
 use Rattle.lane_access.proofs.Laws.{accessed-word}
-use Rattle.predicate_action.specs.Action.{extensionOf}
+use Rattle.predicate_action.specs.Meaning.{extensionOf}
 use Rattle.riscv32imc_predicate.proofs.run.load_lanes.Statement.{statement}
 use Rattle.riscv32imc_predicate.proofs.run.load_lanes.Tie as tie
 

@@ -1,0 +1,56 @@
+// What comes at a place: arrival, a refusal, or a fetched instruction.
+use super::Ending;
+use super::Place;
+use super::Progress;
+use lane_access::Fetching;
+use lane_access::Rv32Error;
+use predicate_action::Action;
+use predicate_action::reading_of;
+use predicate_semantics::STOP;
+ghost use mathlib.Core.Path.{_≡_};
+ghost use mathlib.Core.Bool.{false};
+ghost use Rattle.riscv32imc_predicate.specs.Tracking.{Readied};
+
+pub fn ended(place: Place, ending: Ending) -> Progress
+    ensures { λ r. ⌜ (r .more ≡ false) × (r .ending ≡ ending) × (r .place ≡ place) ⌝ }
+{
+    Progress {
+        more: false,
+        ending,
+        action: Action::Nothing,
+        word: 0,
+        length: 0,
+        reading: reading_of(Action::Nothing),
+        place,
+    }
+}
+
+// Arrival at stop, the bound, the fetch: what comes at a place.
+pub fn ready(place: Place, image: &[u8], rows: &[u8]) -> Progress
+    ensures { λ r. ⌜ Readied (now (image .entry)) (now (rows .entry)) place r ⌝ }
+{
+    let pc = place.pc;
+    if pc == STOP {
+        return ended(place, Ending::Arrived);
+    }
+    if riscv32imc::MAX_RV32_STEPS <= (place.steps as u64) {
+        return ended(place, Ending::Refused(Rv32Error::StepLimit));
+    }
+    let fetching = lane_access::fetch(image, rows, pc);
+    match fetching {
+        Fetching::Got(fetched) => {
+            let operation = fetched.operation;
+            let action = predicate_action::action_of(operation, pc);
+            Progress {
+                more: true,
+                ending: Ending::Arrived,
+                action,
+                word: fetched.word,
+                length: fetched.length,
+                reading: reading_of(action),
+                place,
+            }
+        }
+        Fetching::Refused(error) => ended(place, Ending::Refused(error)),
+    }
+}
