@@ -27,7 +27,7 @@ use Rattle.riscv32imc_predicate.specs.declared.Progress.{Progress}
 use Rattle.riscv32imc_predicate.specs.Tracking.{Call, program, space, rest, IsAt, Goes, Ends, Comes, Readies}
 
 -- a fetch at a pc, whatever the steps are
-abbrev pub Fetches : List ℕ → List ℕ → ℕ → Tested Fetched → Type 0
+abbrev Fetches : List ℕ → List ℕ → ℕ → Tested Fetched → Type 0
 Fetches image rows pc t = (steps : ℕ) → t ≡ fetch (inputs firstInput lanes) standingCore (seen image rows) steps pc
 
 -- the code has a fetched instruction before it

@@ -33,14 +33,15 @@ use Rattle.riscv32imc_predicate.specs.declared.Change.{Change}
 use Rattle.riscv32imc_predicate.specs.declared.Change.the-variants as change
 use Rattle.riscv32imc_predicate.specs.declared.Decision.{Decision}
 use Rattle.riscv32imc_predicate.specs.declared.Decision.the-variants as decision
+use Rattle.riscv32imc_predicate.specs.declared.Place.{Place}
 use Rattle.riscv32imc_predicate.specs.declared.Progress.{Progress}
 use Rattle.riscv32imc_predicate.specs.declared.Reached.{Reached}
 use Rattle.riscv32imc_predicate.specs.declared.Recorded.{Recorded}
 use Rattle.riscv32imc_predicate.specs.Changes.{decisionOf, changeOf, Untold, Fits, Sources}
-use Rattle.riscv32imc_predicate.specs.Tracking.{entryCount, Call, program, space, first, rest, Tracks, Keeps, Goes, Comes, Ready, Arrives, Begins, startRecorded, Located, Decides, Follows}
+use Rattle.riscv32imc_predicate.specs.Tracking.{entryCount, Call, program, space, first, rest, Tracks, Keeps, Goes, Comes, Ready, Readied, Arrives, Begins, startRecorded, Located, Decides, Follows}
 use Rattle.riscv32imc_predicate.specs.Register.{registerCount, firstOperand, secondOperand, startRegisters, Held, slotOf, operandTold, placeOf, laidOut, Stores, LoadsLanes}
 use Rattle.riscv32imc_predicate.proofs.Filing.{read-any, held-source, held-lanes, held-value, held-word, held-laid, laid-read, laid-other, place-apart, operand-word}
-use Rattle.riscv32imc_predicate.proofs.Following.{given, same-length}
+use Rattle.riscv32imc_predicate.proofs.Following.{is-at, given, same-length}
 use Rattle.riscv32imc_predicate.proofs.Stepping.{after, Stepped, Here, Decided, Passes, passes, on-passed, on-refused, leaves-going, leaves-setting, leaves-storing}
 
 -- what the loop holds beside a place and a trace: what is told of the registers' words, the words, event locations, rows
@@ -78,13 +79,14 @@ begin-registers : (c : Call) → startRegisters ≡ first c .registers
 unfolding begin standing standingCore setup laneCount
 begin-registers c = rw (length-inputs Word.firstInput Word.lanes)
 
-pub looped-start : (c : Call) (m : Machine) {word : LaneWord} {progress : Progress} → Held (m .told) (m .words) startRegisters
-    → length (word .values) ≡ Word.lanes → m .noted ≡ startRecorded → Begins c (m .rows) progress → Looped c (m .rows) m word progress (c .trace)
+pub looped-start : (c : Call) (m : Machine) {word : LaneWord} {place : Place} {progress : Progress} → Held (m .told) (m .words) startRegisters
+    → length (word .values) ≡ Word.lanes → m .noted ≡ startRecorded → Begins c (m .rows) place → Readied (c .image) (m .rows) place progress
+    → Looped c (m .rows) m word progress (c .trace)
 unfolding begin
-looped-start c m h e z b = record {
+looped-start c m h e z b r = record {
   state = first c;
-  tracks = b .0;
-  ready = b .1;
+  tracks = subst (λ (x : Place). Tracks c x (m .rows) (c .trace) (first c)) (sym (r .0)) b;
+  ready = r .1 c (first c) (is-at b);
   keeps = rw z (refl, refl);
   held = subst (λ (l : List LaneWord). Held (m .told) (m .words) l) (begin-registers c) h;
   size = e;
@@ -168,7 +170,7 @@ module _ {c : Call} {rows₀ : List ℕ} {m : Machine} {word : LaneWord} {progre
 
   -- no more: the end
   pub looped-end : progress .more ≡ false → (u : Told) (d : LaneWord) {x10 : LaneWord} → x10 ≡ wordOf (getD (m .told) 10 u) (getD (m .words) 10 d)
-      → Arrives c (record { progress = progress; recorded = m .noted; x10 = x10 }) (m .rows) trace
+      → Arrives c (record { place = progress .place; ending = progress .ending; recorded = m .noted; x10 = x10 }) (m .rows) trace
   unfolding reg
   looped-end e u d x = record {
     state = i .state;

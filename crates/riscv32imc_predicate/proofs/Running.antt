@@ -41,16 +41,14 @@ use Rattle.lane_access.proofs.Laws.{above-write}
 use Rattle.riscv32imc_predicate.specs.declared.Place.{Place}
 use Rattle.riscv32imc_predicate.specs.declared.Ending.{Ending}
 use Rattle.riscv32imc_predicate.specs.declared.Ending.the-variants as ending
-use Rattle.riscv32imc_predicate.specs.declared.Progress.{Progress}
 use Rattle.riscv32imc_predicate.specs.declared.Recorded.{Recorded}
 use Rattle.riscv32imc_predicate.specs.declared.Reached.{Reached}
 use Rattle.riscv32imc_predicate.specs.declared.PredicateAnswer.the-variants as answer
 use Rattle.riscv32imc_predicate.specs.declared.PredicateRun.{PredicateRun}
-use Rattle.riscv32imc_predicate.specs.Tracking.{entryCount, Call, called, program, space, first, rest, Tracks, IsAt, Ends, Ready, Readied, Begins, Arrives, startPlace}
+use Rattle.riscv32imc_predicate.specs.Tracking.{entryCount, Call, called, program, space, first, rest, Tracks, Ends, Begins, Arrives, startPlace}
 use Rattle.riscv32imc_predicate.specs.Finishing.{Answers}
 use Rattle.riscv32imc_predicate.specs.Outcome.{runOver}
 use Rattle.riscv32imc_predicate.specs.Reporting.{refusedRun, Reports, Counts, Runs}
-use Rattle.riscv32imc_predicate.proofs.Following.{is-at}
 
 pub off : (b : Bool) → not b ≡ true → b ≡ false
 off true e = sym e
@@ -180,17 +178,13 @@ module _ (image : List ℕ) (symbols : Rv32SymbolLayout) (rows trace : List ℕ)
 
   -- the loop's start
   pub begins : Holds rows (rowCount rows) [] × (startTests (length image) symbols (rowCount rows) ≡ passed tt)
-      → {rows′ : List ℕ} → rows′ ≡ storeValues rows 4 stop stopWord
-      → (progress : Progress) → Readied image rows′ (startPlace (symbols .entry)) progress
-      → Begins (called image symbols rows′ trace) rows′ progress × (rowCount rows′ ≡ rowCount rows)
-  begins (h, k) {rows′} e progress r =
+      → {rows′ : List ℕ} → rows′ ≡ storeValues rows 4 stop stopWord → {place : Place} → place ≡ startPlace (symbols .entry)
+      → Begins (called image symbols rows′ trace) rows′ place × (rowCount rows′ ≡ rowCount rows)
+  begins (h, k) {rows′} e {place} q =
       let c : Call = called image symbols rows trace in
-      let t : Tracks c (progress .place) rows′ trace (first c) = rw (r .0, e) (begin-tracks c k rows h) in
-      let same : rowCount rows′ ≡ rowCount rows = t .holds .rows in (
-        subst (λ (d : Call). Tracks d (progress .place) rows′ (d .trace) (first d) × Ready d progress (first d))
-            (sym (recalled rows′ same)) (t, r .1 c (first c) (subst (λ (p : Place). IsAt c image rows′ p (first c)) (r .0) (is-at t))),
-        same,
-      )
+      let t : Begins c rows′ place = rw (q, e) (begin-tracks c k rows h) in
+      let same : rowCount rows′ ≡ rowCount rows = t .holds .rows in
+      (subst (λ (d : Call). Begins d rows′ place) (sym (recalled rows′ same)) t, same)
 
   pub runs-as : (e : Ended) → runOver image symbols rows trace ≡ e → {r : PredicateRun} {rows′ trace′ : List ℕ}
       → Reports (called image symbols rows trace) (e .state) (e .answer) r → (trace′ ≡ over (traceBytes (e .state .trace)) trace) × (cleared rows′ ≡ cleared rows)
@@ -204,15 +198,15 @@ module _ (image : List ℕ) (symbols : Rv32SymbolLayout) (rows trace : List ℕ)
 
 -- where the loop ended
 module _ {c : Call} {q : Reached} {rows trace : List ℕ} (k : startTests (length (c .image)) (c .symbols) (c .rows) ≡ passed tt) (a : Arrives c q rows trace) where
-  pub ended-refused : (x : Rv32Error) → q .progress .ending ≡ ending.Refused x
+  pub ended-refused : (x : Rv32Error) → q .ending ≡ ending.Refused x
       → standingLaneRun (c .image) (c .symbols) (c .rows) (entryCount (c .trace)) ≡ record { state = a .state; answer = refused (refusalOf x) }
   ended-refused x e = run-is-rest c k ∙ a .same-rest ∙ subst (λ (y : Ending). Ends c y (a .state)) e (a .ends)
 
-  pub ended-arrived : q .progress .ending ≡ ending.Arrived
+  pub ended-arrived : q .ending ≡ ending.Arrived
       → standingLaneRun (c .image) (c .symbols) (c .rows) (entryCount (c .trace)) ≡ record { state = a .state; answer = finish (program c) (space c) (a .state) }
   ended-arrived e = run-is-rest c k ∙ a .same-rest ∙ run-stop (program c) (space c) _ (a .state) (subst (λ (y : Ending). Ends c y (a .state)) e (a .ends))
 
-  pub counts : Counts (q .progress .place) (q .recorded) (a .state)
+  pub counts : Counts (q .place) (q .recorded) (a .state)
   counts = record {
     same-steps = a .tracks .same-steps;
     bounded = a .tracks .bounded;

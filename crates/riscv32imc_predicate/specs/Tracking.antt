@@ -12,7 +12,7 @@ use Rattle.riscv32imc.specs.Constants.{imageBase, maxSteps}
 use Rattle.riscv_decode.specs.declared.Fetched.{Fetched}
 use Rattle.lane_word.specs.declared.LaneWord.{LaneWord}
 use Rattle.lane_word.specs.declared.Uniform.{Uniform}
-use Rattle.lane_word.specs.Word.{lanes}
+use Rattle.lane_word.specs.Word.{inputs, firstInput, lanes}
 use Rattle.predicate_semantics.specs.declared.Rv32SymbolLayout.{Rv32SymbolLayout}
 use Rattle.predicate_semantics.specs.Program.{Program, stop, maxEvents}
 use Rattle.predicate_semantics.specs.State.{recorded}
@@ -20,7 +20,7 @@ use Rattle.predicate_semantics.specs.Memory.{LaneBytes}
 use Rattle.predicate_semantics.specs.Refusal.{passed, refused}
 use Rattle.predicate_semantics.specs.Lane.{LaneState, Setup, memoryOf, reg, fetch, execute, run, begin}
 use Rattle.predicate_semantics.specs.Lane as Lane
-use Rattle.predicate_semantics.specs.Standing.{standing, setup}
+use Rattle.predicate_semantics.specs.Standing.{standingCore, standing, setup}
 use Rattle.predicate_semantics.specs.Trace.{entryBytes, traceBytes, putEntry}
 use Rattle.predicate_action.specs.Meaning.{meaning}
 use Rattle.predicate_action.specs.Reading.{readingOf, computed}
@@ -38,6 +38,8 @@ use Rattle.riscv32imc_predicate.specs.declared.Decision.{Decision}
 use Rattle.riscv32imc_predicate.specs.declared.Decision.the-variants as decision
 use Rattle.riscv32imc_predicate.specs.Changes.{decisionOf, lastTested, Fits, Given, Sources}
 use Rattle.riscv32imc_predicate.specs.declared.Reached.{Reached}
+use Rattle.riscv32imc_predicate.specs.declared.ready.Instruction.{Instruction}
+use Rattle.riscv32imc_predicate.specs.declared.ready.Instruction.the-variants as instruction
 pub use Rattle.riscv32imc_predicate.specs.Outcome.{entryCount}
 
 -- the first locations are kept, all of them counted
@@ -107,9 +109,9 @@ module _ (c : Call) where
   -- the end of the loop
   pub record Arrives (r : Reached) (rows trace : List ℕ) : Type 0 where
     pub state : LaneState
-    pub tracks : Tracks (r .progress .place) rows trace state
+    pub tracks : Tracks (r .place) rows trace state
     pub keeps : Keeps (r .recorded) (state .locations)
-    pub ends : Ends (r .progress .ending) state
+    pub ends : Ends (r .ending) state
     pub return-word : r .x10 ≡ reg (program c) (space c) state 10
     pub same-rest : rest c (first c) ≡ rest c state
 
@@ -131,6 +133,14 @@ Added kept pc r = (ls : List ℕ) → length ls + 1 < 2 ^ 32 → Keeps kept ls �
 abbrev pub Located : Recorded → ℕ → ℕ → ℕ → ℕ → Recorded → Type 0
 Located kept pc address width eventCount r =
     (ls : List ℕ) → length ls + 1 < 2 ^ 32 → Keeps kept ls → Keeps r (recorded eventCount pc address width ls)
+
+-- what is fetched at a pc, after whatever steps, and its action there
+abbrev pub FetchesAs : List ℕ → List ℕ → ℕ → Instruction → Type 0
+FetchesAs image rows pc (instruction.Got action word size) =
+    (f : Fetched) × ((steps : ℕ) → passed f ≡ fetch (inputs firstInput lanes) standingCore (seen image rows) steps pc)
+    × (action ≡ meaning (f .operation) pc) × (word ≡ f .word) × (size ≡ f .length)
+FetchesAs image rows pc (instruction.Refused e) =
+    (steps : ℕ) → refused (refusalOf e) ≡ fetch (inputs firstInput lanes) standingCore (seen image rows) steps pc
 
 -- a place in a state whose memory image and rows show
 pub record IsAt (c : Call) (image rows : List ℕ) (place : Place) (s : LaneState) : Type 0 where
@@ -192,5 +202,5 @@ abbrev pub startRecorded : Recorded
 startRecorded = record { count = 0; locations = replicate maxEvents 0 }
 
 -- the code is where the run begins
-abbrev pub Begins : Call → List ℕ → Progress → Type 0
-Begins c rows progress = Tracks c (progress .place) rows (c .trace) (first c) × Ready c progress (first c)
+abbrev pub Begins : Call → List ℕ → Place → Type 0
+Begins c rows place = Tracks c place rows (c .trace) (first c)

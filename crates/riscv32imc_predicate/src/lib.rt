@@ -99,7 +99,8 @@ struct Registers {
 
 // Where the loop ends.
 struct Reached {
-    progress: Progress,
+    place: Place,
+    ending: Ending,
     recorded: Recorded,
     x10: LaneWord,
 }

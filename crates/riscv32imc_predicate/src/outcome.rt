@@ -7,7 +7,6 @@ use super::Recorded;
 use super::finish::Finished;
 use super::finish::finish;
 use super::finish::no_events;
-use super::ready::ready;
 use super::run::advance;
 use super::start::start_place;
 use super::start::start_test;
@@ -91,11 +90,9 @@ pub fn run(
         return refused(error, 0);
     }
     lane_memory::store_value(rows, STOP, 4, STOP_WORD);
-    let first = ready(start_place(symbols.entry), image, rows);
-    let reached = advance(first, image, symbols, rows, trace);
-    let progress = reached.progress;
-    let ending = progress.ending;
-    let place = progress.place;
+    let reached = advance(start_place(symbols.entry), image, symbols, rows, trace);
+    let ending = reached.ending;
+    let place = reached.place;
     match ending {
         Ending::Refused(error) => refused(error, place.steps),
         Ending::Arrived => {

@@ -9,7 +9,17 @@ use predicate_action::reading_of;
 use predicate_semantics::STOP;
 ghost use mathlib.Core.Path.{_≡_};
 ghost use mathlib.Core.Bool.{false};
-ghost use Rattle.riscv32imc_predicate.specs.Tracking.{Readied};
+ghost use Rattle.riscv32imc_predicate.specs.Tracking.{FetchesAs, Readied};
+
+// A fetched instruction, as its action: the operation's own fields stay below.
+enum Instruction {
+    Got {
+        action: Action,
+        word: u32,
+        length: u32,
+    },
+    Refused(Rv32Error),
+}
 
 pub fn ended(place: Place, ending: Ending) -> Progress
     ensures { λ r. ⌜ (r .more ≡ false) × (r .ending ≡ ending) × (r .place ≡ place) ⌝ }
@@ -25,6 +35,24 @@ pub fn ended(place: Place, ending: Ending) -> Progress
     }
 }
 
+// What is fetched at a pc, and what it means there.
+fn instruction_at(image: &[u8], rows: &[u8], pc: u32) -> Instruction
+    ensures { λ r. ⌜ FetchesAs (now (image .entry)) (now (rows .entry)) pc r ⌝ }
+{
+    let fetching = lane_access::fetch(image, rows, pc);
+    match fetching {
+        Fetching::Got(fetched) => {
+            let operation = fetched.operation;
+            Instruction::Got {
+                action: predicate_action::action_of(operation, pc),
+                word: fetched.word,
+                length: fetched.length,
+            }
+        }
+        Fetching::Refused(error) => Instruction::Refused(error),
+    }
+}
+
 // Arrival at stop, the bound, the fetch: what comes at a place.
 pub fn ready(place: Place, image: &[u8], rows: &[u8]) -> Progress
     ensures { λ r. ⌜ Readied (now (image .entry)) (now (rows .entry)) place r ⌝ }
@@ -36,21 +64,21 @@ pub fn ready(place: Place, image: &[u8], rows: &[u8]) -> Progress
     if riscv32imc::MAX_RV32_STEPS <= (place.steps as u64) {
         return ended(place, Ending::Refused(Rv32Error::StepLimit));
     }
-    let fetching = lane_access::fetch(image, rows, pc);
-    match fetching {
-        Fetching::Got(fetched) => {
-            let operation = fetched.operation;
-            let action = predicate_action::action_of(operation, pc);
-            Progress {
-                more: true,
-                ending: Ending::Arrived,
-                action,
-                word: fetched.word,
-                length: fetched.length,
-                reading: reading_of(action),
-                place,
-            }
-        }
-        Fetching::Refused(error) => ended(place, Ending::Refused(error)),
+    let instruction = instruction_at(image, rows, pc);
+    match instruction {
+        Instruction::Got {
+            action,
+            word,
+            length,
+        } => Progress {
+            more: true,
+            ending: Ending::Arrived,
+            action,
+            word,
+            length,
+            reading: reading_of(action),
+            place,
+        },
+        Instruction::Refused(error) => ended(place, Ending::Refused(error)),
     }
 }

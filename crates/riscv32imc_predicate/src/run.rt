@@ -2,7 +2,7 @@
 use super::Change;
 use super::ENTRY_BYTES;
 use super::FIRST_OPERAND;
-use super::Progress;
+use super::Place;
 use super::REGISTERS;
 use super::Reached;
 use super::SECOND_OPERAND;
@@ -11,6 +11,7 @@ use super::decide::change_of;
 use super::decide::decide;
 use super::follow::follow;
 use super::follow::located;
+use super::ready::ready;
 use super::start::start_recorded;
 use super::start::start_registers;
 use super::start::start_told;
@@ -134,7 +135,7 @@ fn load_lanes(image: &[u8], rows: &[u8], address: u32, width: u32, extension: Ex
 
 // Steps up to the run's end. The registers stay here, each told by one value or by its lanes; only single words cross calls.
 pub fn advance(
-    first: Progress,
+    first: Place,
     image: &[u8],
     symbols: Rv32SymbolLayout,
     rows: &mut [u8],
@@ -148,7 +149,7 @@ pub fn advance(
     let mut told = start_told();
     let mut computed = LaneWord::unknown();
     let mut recorded = start_recorded();
-    let mut progress = first;
+    let mut progress = ready(first, image, rows);
     while progress.more {
         let event_count = symbols.event_count;
         let pc = progress.place.pc;
@@ -218,8 +219,11 @@ pub fn advance(
         }
         progress = follow(progress, decision, new, image, rows, trace);
     }
+    let place = progress.place;
+    let ending = progress.ending;
     Reached {
-        progress,
+        place,
+        ending,
         recorded,
         x10: lanes_of(told[10], registers.words[10]),
     }

@@ -1,4 +1,4 @@
-use mathlib.Core.Path.{_≡_, refl, sym, ap, _∙_, subst}
+use mathlib.Core.Path.{_≡_, refl, sym, ap, _∙_}
 use mathlib.Core.List.{List}
 use Prim.Native.Nat.{ℕ}
 use lib.ListN.{length}
@@ -12,8 +12,7 @@ use Rattle.predicate_semantics.specs.Program.{stop, stopWord}
 use Rattle.lane_memory.specs.Rows.{rowCount, storeValues, cleared}
 use Rattle.lane_memory.proofs.Laws.{cleared-store-value}
 use Rattle.lane_access.specs.Answers.{verdictOf, refusalOf}
-use Rattle.riscv32imc_predicate.specs.declared.Place.{Place}
-use Rattle.riscv32imc_predicate.specs.Tracking.{Call, called, program, space, first, Readied, Begins, Arrives}
+use Rattle.riscv32imc_predicate.specs.Tracking.{Call, called, program, space, first, Begins, Arrives}
 use Rattle.riscv32imc_predicate.proofs.Following.{sees}
 use Rattle.riscv32imc_predicate.proofs.Running.{run-refused-first, reports-refused, begins, runs-as, arrives, ended-refused, ended-arrived, counts, events-low}
 use Rattle.riscv32imc_predicate.proofs.outcome.run.Statement.{statement}
@@ -34,11 +33,8 @@ module _ (c : tie.After-enum-told) where
 
 -- the loop has ended
 module _ (k : tie.After-advance) where
-  abbrev readied : tie.After-ready
-  readied = k .before .before .before
-
   abbrev placed : tie.After-start-place
-  placed = readied .before .before
+  placed = k .before .before .before
 
   abbrev stored : tie.After-store-value
   stored = placed .before .before .before
@@ -65,10 +61,9 @@ module _ (k : tie.After-advance) where
   same-stored : rows₁ ≡ storeValues rows 4 stop stopWord
   same-stored = stored .store-value .ensures
 
-  begun : Begins (called image symbols rows₁ trace) rows₁ (readied .ready .result) × (rowCount rows₁ ≡ rowCount rows)
+  begun : Begins (called image symbols rows₁ trace) rows₁ (placed .start-place .result) × (rowCount rows₁ ≡ rowCount rows)
   begun =
-      begins image symbols rows trace (start told .pre, passes told) same-stored (readied .ready .result)
-      (subst (λ (p : Place). Readied image rows₁ p (readied .ready .result)) (placed .start-place .ensures) (readied .ready .ensures))
+      begins image symbols rows trace (start told .pre, passes told) same-stored (placed .start-place .ensures)
 
   cleared-stop : cleared rows₁ ≡ cleared rows
   cleared-stop = ap cleared same-stored ∙ cleared-store-value rows 4 stop stopWord
@@ -80,10 +75,10 @@ module _ (k : tie.After-advance) where
   reaches = arrives image symbols rows trace rows₁ (begun .1) (k .advance .ensures .0)
 
 abbrev ended : tie.After-refused2 → tie.After-advance
-ended c = c .before .before .before .before .before .before .before .before .before .before
+ended c = c .before .before .before .before .before .before .before .before .before
 
 abbrev arrived : tie.After-answered → tie.After-advance
-arrived c = c .before .before .before .before .before .before .before .before .before .before .before .before
+arrived c = c .before .before .before .before .before .before .before .before .before .before .before
 
 pub run-spec : {M : Type 1} → statement M
 unfolding begin standing setup
@@ -108,20 +103,17 @@ run-spec =
     (λ c. search needs)
     (λ c κs. search needs)
     (λ c κs. search needs)
-    (λ c κs. search needs)
     (λ c κs.
-    let y = c .before .before in
-    let z = y .before .before in
+    let z = c .before .before in
     let w = z .before .before .before in
     let u = w .before .before in
     let a = start u .args in
-    begins (now (a .image)) (a .symbols) (now (a .rows)) (now (a .trace)) (start u .pre, passes u) (w .store-value .ensures) (y .ready .result)
-    (subst (λ (p : Place). Readied (now (a .image)) (w .store-value .last .0) p (y .ready .result)) (z .start-place .ensures) (y .ready .ensures)) .0)
+    begins (now (a .image)) (a .symbols) (now (a .rows)) (now (a .trace)) (start u .pre, passes u) (w .store-value .ensures) (z .start-place .ensures) .0)
     (λ c. search needs)
     (λ c κs. search needs)
     (λ c. search needs)
     (λ c κs.
-    let k = c .before .before .before .before .before .before .before .before .before .before in
+    let k = c .before .before .before .before .before .before .before .before .before in
     events-low (length (image k)) (symbols k) (rowCount (rows k)) (passes (told k)))
     (λ c κs. search needs)
     (λ c. let k = ended c in k .advance .kept .1 .1 .1 .0 ∙ stored k .store-value .kept .0)

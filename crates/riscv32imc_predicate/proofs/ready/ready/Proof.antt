@@ -1,8 +1,7 @@
-use mathlib.Core.Path.{_≡_, refl, sym, ap, _∙_}
-use Prim.Native.Nat.{ℕ}
+use mathlib.Core.Path.{refl, subst}
 use denote.Ref.{now}
 use borrow.Author.Needs.{needs}
-use Rattle.lane_access.specs.Answers.{fetchingOf}
+use Rattle.riscv32imc_predicate.specs.Tracking.{FetchesAs}
 use Rattle.riscv32imc_predicate.proofs.Coming.{comes-stop, comes-bound, comes-refused, comes-next}
 use Rattle.riscv32imc_predicate.proofs.ready.ready.Statement.{statement}
 use Rattle.riscv32imc_predicate.proofs.ready.ready.Tie as tie
@@ -26,23 +25,17 @@ ready-spec =
     (λ c κs. search needs)
     (λ c. search needs)
     (λ c κs. search needs)
-    (λ c κs. search needs)
     (λ c. search needs)
     (λ c κs. search needs)
     (λ c.
-    let g = c .before .before .before in
+    let g = c .before .before in
     let f = g .before .before in
     let b = f .before .before .before in
-    let a = b .before .before .before .args in (
+    let a = b .before .before .before .args in
+    let q = subst (FetchesAs (now (a .image)) (now (a .rows)) (a .place .pc)) (g .instruction .given .1) (f .instruction-at .ensures) in (
       refl,
-      comes-next (now (a .image)) (now (a .rows)) (a .place) _ (b .if1 .left, f .before .if2 .left) (g .fetching .given .0 .0)
-          (λ steps. sym (ap fetchingOf (g .fetching .given .1)) ∙ f .fetch .ensures steps) (record {
-            more = refl;
-            same-word = refl;
-            same-length = refl;
-            same-action = c .before .action-of .ensures;
-            reads = c .reading-of .ensures;
-          }),
+      comes-next (now (a .image)) (now (a .rows)) (a .place) _ (b .if1 .left, f .before .if2 .left) (q .0) (q .1)
+          (record { more = refl; same-word = q .3; same-length = q .4; same-action = q .2; reads = c .reading-of .ensures }),
     ))
     (λ c.
     let g = c .before .before in
@@ -52,5 +45,5 @@ ready-spec =
     let e = c .ended3 .ensures in (
       e .2,
       comes-refused (now (a .image)) (now (a .rows)) (a .place) (c .ended3 .result) (b .if1 .left, f .before .if2 .left) (e .0) (e .1)
-          (λ steps. sym (ap fetchingOf (g .fetching2 .given .1)) ∙ f .fetch .ensures steps),
+          (subst (FetchesAs (now (a .image)) (now (a .rows)) (a .place .pc)) (g .instruction2 .given .1) (f .instruction-at .ensures)),
     )))

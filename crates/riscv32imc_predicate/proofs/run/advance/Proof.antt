@@ -41,7 +41,7 @@ wordsOf r = r .words
 -- what the loop has at a turn's start
 module _ (k : tie.In-loop I μ) where
   abbrev start-of : tie.Start I μ
-  start-of = k .before .before .before .before .before .before .before .before .before
+  start-of = k .before .before .before .before .before .before .before .before .before .before .before
 
   abbrev call : Call
   call = called (now (start-of .args .image)) (start-of .args .symbols) (now (start-of .args .rows)) (now (start-of .args .trace))
@@ -207,14 +207,16 @@ advance-spec =
     (λ c κs. search needs)
     (λ c κs. search needs)
     (λ c κs. search needs)
+    (λ c κs. search needs)
     (λ c.
-    let u = c .before in
+    let v = c .before .before in
+    let u = v .before in
     let t = u .before in
     let r = t .before in
     let s = r .before .before .before .before in
     looped-start (called (now (s .args .image)) (s .args .symbols) (now (s .args .rows)) (now (s .args .trace)))
-    (machine (r .start-registers .result) (t .start-told .result) (c .start-recorded .result) (now (s .args .rows)))
-    (rw (t .start-told .ensures) (r .start-registers .ensures)) (rw (u .unknown .ensures) (unknown-size lanes)) (c .start-recorded .ensures) (s .pre))
+    (machine (r .start-registers .result) (t .start-told .result) (v .start-recorded .result) (now (s .args .rows)))
+    (rw (t .start-told .ensures) (r .start-registers .ensures)) (rw (u .unknown .ensures) (unknown-size lanes)) (v .start-recorded .ensures) (s .pre) (c .ready .ensures))
     (λ c. search needs)
     (λ c. search needs)
     (λ c. omega (arith, below-first (c .before .before .before)))
@@ -275,9 +277,9 @@ advance-spec =
     (λ c. search needs)
     (λ c. search needs)
     (λ c κs. search needs)
-    (λ c. rows-long (c .before .before .before .before .loop .inv))
-    (λ c. trace-long (c .before .before .before .before .loop .inv))
+    (λ c. rows-long (c .before .before .before .before .before .loop .inv))
+    (λ c. trace-long (c .before .before .before .before .before .loop .inv))
     (λ c.
-    let e = c .before .before .before in
+    let e = c .before .before .before .before in
     let h = e .before in
     (looped-end (h .loop .inv) (e .loop-test .left) _ _ (c .lanes-of .ensures), h .loop .inv .same-rows)))
