@@ -24,7 +24,7 @@ use Rattle.riscv32imc_predicate.specs.declared.Place.{Place}
 use Rattle.riscv32imc_predicate.specs.declared.Ending.{Ending}
 use Rattle.riscv32imc_predicate.specs.declared.Ending.the-variants as ending
 use Rattle.riscv32imc_predicate.specs.declared.Progress.{Progress}
-use Rattle.riscv32imc_predicate.specs.Tracking.{Call, program, space, rest, IsAt, Goes, Ends, Comes, Readies}
+use Rattle.riscv32imc_predicate.specs.Tracking.{Call, program, space, rest, IsAt, Continues, Ends, Comes, Readies}
 
 -- a fetch at a pc, whatever the steps are
 abbrev Fetches : List ℕ → List ℕ → ℕ → Tested Fetched → Type 0

@@ -37,8 +37,8 @@ use Rattle.riscv32imc_predicate.specs.declared.Place.{Place}
 use Rattle.riscv32imc_predicate.specs.declared.Progress.{Progress}
 use Rattle.riscv32imc_predicate.specs.declared.Reached.{Reached}
 use Rattle.riscv32imc_predicate.specs.declared.Recorded.{Recorded}
-use Rattle.riscv32imc_predicate.specs.Changes.{decisionOf, changeOf, Untold, Fits, Sources}
-use Rattle.riscv32imc_predicate.specs.Tracking.{entryCount, Call, program, space, first, rest, Tracks, Keeps, Goes, Comes, Ready, Readied, Arrives, Begins, startRecorded, Located, Decides, Follows}
+use Rattle.riscv32imc_predicate.specs.Changes.{decisionOf, changeOf, Untold, Suits, Sources}
+use Rattle.riscv32imc_predicate.specs.Tracking.{entryCount, Call, program, space, firstState, rest, Tracks, Keeps, Continues, Comes, Ready, Readied, Arrives, Begins, startRecorded, Located, Decides, Follows}
 use Rattle.riscv32imc_predicate.specs.Register.{registerCount, firstOperand, secondOperand, startRegisters, Held, slotOf, operandTold, placeOf, laidOut, Stores, LoadsLanes}
 use Rattle.riscv32imc_predicate.proofs.Filing.{read-any, held-source, held-lanes, held-value, held-word, held-laid, laid-read, laid-other, place-apart, operand-word}
 use Rattle.riscv32imc_predicate.proofs.Following.{is-at, given, same-length}
@@ -71,11 +71,11 @@ pub record Looped (c : Call) (rows₀ : List ℕ) (m : Machine) (word : LaneWord
   pub keeps : Keeps (m .noted) (state .locations)
   pub held : Held (m .told) (m .words) (state .registers)
   pub size : length (word .values) ≡ Word.lanes
-  pub same-rest : rest c (first c) ≡ rest c state
+  pub same-rest : rest c (firstState c) ≡ rest c state
   pub same-rows : cleared (m .rows) ≡ cleared rows₀
 
 -- the registers at the start
-begin-registers : (c : Call) → startRegisters ≡ first c .registers
+begin-registers : (c : Call) → startRegisters ≡ firstState c .registers
 unfolding begin standing standingCore setup laneCount
 begin-registers c = rw (length-inputs Word.firstInput Word.lanes)
 
@@ -84,9 +84,9 @@ pub looped-start : (c : Call) (m : Machine) {word : LaneWord} {place : Place} {p
     → Looped c (m .rows) m word progress (c .trace)
 unfolding begin
 looped-start c m h e z b r = record {
-  state = first c;
-  tracks = subst (λ (x : Place). Tracks c x (m .rows) (c .trace) (first c)) (sym (r .0)) b;
-  ready = r .1 c (first c) (is-at b);
+  state = firstState c;
+  tracks = subst (λ (x : Place). Tracks c x (m .rows) (c .trace) (firstState c)) (sym (r .0)) b;
+  ready = r .1 c (firstState c) (is-at b);
   keeps = rw z (refl, refl);
   held = subst (λ (l : List LaneWord). Held (m .told) (m .words) l) (begin-registers c) h;
   size = e;
@@ -279,7 +279,7 @@ module _ {c : Call} {rows₀ : List ℕ} {m : Machine} {word : LaneWord} {progre
       passing d h z same = passes here (resultOf progress m) (wordSecond progress m) d (decided d h) z same
 
       module _ {b : Machine} {r : Progress} {trace′ : List ℕ} (new : ℕ) where
-        pub went : (d : Decision) → Decides (c .image) (m .rows) progress tested (entryCount trace) d × Fits tested d
+        pub went : (d : Decision) → Decides (c .image) (m .rows) progress tested (entryCount trace) d × Suits tested d
             → Applied c (progress .place .pc) word′ (wordSecond progress m) (changeOf d) (withWords m words) b new
             → Follows (c .image) (b .rows) progress new trace r trace′ d → Went c (i .state) m b r trace′
         unfolding apply advanced

@@ -45,7 +45,7 @@ use Rattle.riscv32imc_predicate.specs.declared.Recorded.{Recorded}
 use Rattle.riscv32imc_predicate.specs.declared.Reached.{Reached}
 use Rattle.riscv32imc_predicate.specs.declared.PredicateAnswer.the-variants as answer
 use Rattle.riscv32imc_predicate.specs.declared.PredicateRun.{PredicateRun}
-use Rattle.riscv32imc_predicate.specs.Tracking.{entryCount, Call, called, program, space, first, rest, Tracks, Ends, Begins, Arrives, startPlace}
+use Rattle.riscv32imc_predicate.specs.Tracking.{entryCount, Call, called, program, space, firstState, rest, Tracks, Ends, Begins, Arrives, startPlace}
 use Rattle.riscv32imc_predicate.specs.Finishing.{Answers}
 use Rattle.riscv32imc_predicate.specs.Outcome.{runOver}
 use Rattle.riscv32imc_predicate.specs.Reporting.{refusedRun, Reports, Counts, Runs}
@@ -117,24 +117,24 @@ four w = refl
 module _ (c : Call) where
   -- refused before any step
   pub run-refused-first : (q : Refusal) → startTests (length (c .image)) (c .symbols) (c .rows) ≡ refused q
-      → standingLaneRun (c .image) (c .symbols) (c .rows) (entryCount (c .trace)) ≡ record { state = first c; answer = refused q }
+      → standingLaneRun (c .image) (c .symbols) (c .rows) (entryCount (c .trace)) ≡ record { state = firstState c; answer = refused q }
   unfolding standingLaneRun laneRun on start standing setup _>>=_
   run-refused-first q h = rw h
 
   module _ (h : startTests (length (c .image)) (c .symbols) (c .rows) ≡ passed tt) where
-    started : start (program c) (space c) ≡ passed (first c)
+    started : start (program c) (space c) ≡ passed (firstState c)
     unfolding start standing setup _>>=_
     started = rw h
 
-    pub run-is-rest : standingLaneRun (c .image) (c .symbols) (c .rows) (entryCount (c .trace)) ≡ rest c (first c)
+    pub run-is-rest : standingLaneRun (c .image) (c .symbols) (c .rows) (entryCount (c .trace)) ≡ rest c (firstState c)
     unfolding standingLaneRun laneRun on begin
     run-is-rest = rw started
 
-    kept-first : Kept (program c) (space c) (first c)
+    kept-first : Kept (program c) (space c) (firstState c)
     kept-first = kept-start (program c) (space c) _ started .0
 
     -- the stop word is stored
-    pub begin-tracks : (rows : List ℕ) → Holds rows (c .rows) [] → Tracks c (startPlace (c .symbols .entry)) (storeValues rows 4 stop stopWord) (c .trace) (first c)
+    pub begin-tracks : (rows : List ℕ) → Holds rows (c .rows) [] → Tracks c (startPlace (c .symbols .entry)) (storeValues rows 4 stop stopWord) (c .trace) (firstState c)
     unfolding begin standing setup laneCount reached after ifPassed
     begin-tracks rows k = record {
       reached = rw started;

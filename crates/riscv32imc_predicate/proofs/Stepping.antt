@@ -42,7 +42,7 @@ use Rattle.riscv32imc_predicate.specs.declared.Progress.{Progress}
 use Rattle.riscv32imc_predicate.specs.declared.Recorded.{Recorded}
 use Rattle.riscv32imc_predicate.specs.Changes.{decisionOf, lastTested}
 use Rattle.riscv32imc_predicate.specs.Register.{Stores}
-use Rattle.riscv32imc_predicate.specs.Tracking.{entryCount, Call, program, space, rest, Tracks, Keeps, Goes, Ends, Comes, Ready, Completes, Located, Stays}
+use Rattle.riscv32imc_predicate.specs.Tracking.{entryCount, Call, program, space, rest, Tracks, Keeps, Continues, Ends, Comes, Ready, Completes, Located, Stays}
 use Rattle.riscv32imc_predicate.proofs.Following.{entry-over, entry-fits, last-passed, last-refused, is-at, kept, same-entries, located-after}
 
 abbrev Off : Bool → Type 0
@@ -97,7 +97,7 @@ pub record Stepped (c : Call) (s : LaneState) (noted : Recorded) (progress : Pro
 
 pub record Here (c : Call) (progress : Progress) (noted : Recorded) (rows trace : List ℕ) (s : LaneState) : Type 0 where
   pub tracks : Tracks c (progress .place) rows trace s
-  pub fetches : Goes c progress s
+  pub fetches : Continues c progress s
   pub keeps : Keeps noted (s .locations)
 
 -- what the step comes to, as the code decides, with the computed word and the second source's

@@ -35,6 +35,7 @@ effectOf m w r next (change.Computes rd) = sets rd w next
 effectOf m w r next (change.Loads rd a n e) = sets rd (unary (extensionOf e) (read lanes m n a)) next
 effectOf m w r next (change.Stores a n) = stores a n r next
 
+-- a decision, as the semantics' answer
 abbrev pub decisionOf : LaneBytes → LaneWord → LaneWord → Decision → Tested (Effect LaneWord)
 decisionOf m w r (decision.Goes x next) = passed (effectOf m w r next x)
 decisionOf m w r (decision.Refused e) = refused (refusalOf e)
@@ -55,15 +56,16 @@ Untold Unknown = Unit {0}
 Untold Uneven = Unit {0}
 
 -- a word is set by its lanes only where no value is told of it, and a load that is left to the lanes has passed its range
-abbrev pub FitsChange : Uniform → Change → Type 0
-FitsChange u change.Nothing = Unit {0}
-FitsChange u (change.Sets rd v) = Unit {0}
-FitsChange u (change.Computes rd) = Untold u
-FitsChange u (change.Loads rd a n e) = inside a n ≡ passed tt
-FitsChange u (change.Stores a n) = Unit {0}
+abbrev pub SuitsChange : Uniform → Change → Type 0
+SuitsChange u change.Nothing = Unit {0}
+SuitsChange u (change.Sets rd v) = Unit {0}
+SuitsChange u (change.Computes rd) = Untold u
+SuitsChange u (change.Loads rd a n e) = inside a n ≡ passed tt
+SuitsChange u (change.Stores a n) = Unit {0}
 
-abbrev pub Fits : Uniform → Decision → Type 0
-Fits u x = FitsChange u (changeOf x)
+-- .. of a decision
+abbrev pub Suits : Uniform → Decision → Type 0
+Suits u x = SuitsChange u (changeOf x)
 
 -- `Control step`: after every other test, the trace space
 abbrev pub lastTested : Tested (Effect LaneWord) → ℕ → ℕ → Tested (Effect LaneWord)
@@ -82,23 +84,28 @@ pub record Given (p : Program) (l : Setup) (s : LaneState) (image rows : List �
 
 -- ---- the forms, by what is told of the computed word
 
+-- a register gets the computed word
 abbrev pub SetsComputed : Decision → ℕ → Uniform → ℕ → Type 0
 SetsComputed x rd tested next =
     (m : LaneBytes) (w r : LaneWord) → length (w .values) ≡ lanes → tested ≡ uniformOf w → decisionOf m w r x ≡ passed (sets rd w next)
 
+-- JALR's target is agreed on and not 0, and the register gets the following address
 abbrev pub JumpsTo : Decision → ℕ → Uniform → ℕ → Type 0
 JumpsTo x rd tested next =
     Always x (λ _. agreedAs 2 tested >>= λ to. require 10 (ltb 0 to) >>= λ _. passed (sets rd (constant lanes next) to))
 
+-- a branch's direction is agreed on: 0 goes on
 abbrev pub Branches : Decision → Uniform → ℕ → ℕ → Type 0
 Branches x tested to next =
     Always x (λ _. agreedAs 5 tested >>= λ direction. passed (goes (choose (eqb direction 0) (λ _. next) (λ _. to))))
 
+-- a load's address is agreed on, then its range is tested
 abbrev pub LoadsFrom : List ℕ → List ℕ → Decision → ℕ → Uniform → ℕ → Extension → ℕ → Type 0
 LoadsFrom image rows x rd tested n e next =
     (w r : LaneWord) → decisionOf (seen image rows) w r x
     ≡ (agreedAs 3 tested >>= λ address. access (inputs firstInput lanes) (seen image rows) n address >>= λ v. passed (sets rd (unary (extensionOf e) v) next))
 
+-- a store's address is agreed on, then its room
 abbrev pub StoresTo : List ℕ → ℕ → ℕ → Decision → Uniform → ℕ → ℕ → Type 0
 StoresTo rows written size x tested n next =
     Always x (λ r. agreedAs 4 tested >>= λ address. roomFor (imageBase + size) (rowCount rows) address n (written + newBytes rows n address) >>= λ _. passed (stores address n r next))

@@ -35,6 +35,7 @@ resultBy answer.Accepted e es trace = passed (record {
 })
 resultBy (answer.Refused x) e es trace = refused (refusalOf x)
 
+-- .. of the whole outcome
 abbrev pub resultIn : PredicateRun → List ℕ → Tested Result
 resultIn r trace = resultBy (r .answer) (r .execution) (r .events) trace
 

@@ -22,7 +22,7 @@ use Rattle.lane_memory.specs.Rows.{newBytes, cleared}
 use Rattle.lane_memory.specs.Holds.{Holds}
 use Rattle.lane_access.specs.Seen.{seen}
 
--- the registers' words, then those of two operands that are one value, and what is set in x0
+-- how many registers there are; after their words come two operands that are one value, and what is set in x0
 abbrev pub registerCount : ℕ
 registerCount = 32
 
@@ -62,6 +62,7 @@ startRegisters =
 abbrev pub startTold : List Told
 startTold = set (set (set (replicate places Lanes) 0 (Value 0)) 1 (Value stop)) 2 (Value stackPointer)
 
+-- the words that hold the first registers
 abbrev pub StartWords : List LaneWord → Type 0
 StartWords words = Held startTold words startRegisters
 
@@ -73,11 +74,12 @@ slotOf rd = cond (eqb rd 0) unread (cond (ltb rd registerCount) rd unread)
 abbrev pub operandTold : Reading → Told → Told
 operandTold r u = cond (r .immediate) (Value (r .operand)) u
 
--- where an operand's word is, and the words once one value is laid out there
+-- where an operand's word is
 abbrev pub placeOf : Told → ℕ → ℕ → ℕ
 placeOf (Value v) register own = own
 placeOf Lanes register own = register
 
+-- the words once one value is laid out at a place of its own
 abbrev pub laidOut : Told → ℕ → List LaneWord → List LaneWord
 laidOut (Value v) own words = set words own (constant lanes v)
 laidOut Lanes own words = words

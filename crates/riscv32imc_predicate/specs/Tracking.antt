@@ -36,7 +36,7 @@ use Rattle.riscv32imc_predicate.specs.declared.Ending.the-variants as en
 use Rattle.riscv32imc_predicate.specs.declared.Progress.{Progress}
 use Rattle.riscv32imc_predicate.specs.declared.Decision.{Decision}
 use Rattle.riscv32imc_predicate.specs.declared.Decision.the-variants as decision
-use Rattle.riscv32imc_predicate.specs.Changes.{decisionOf, lastTested, Fits, Given, Sources}
+use Rattle.riscv32imc_predicate.specs.Changes.{decisionOf, lastTested, Suits, Given, Sources}
 use Rattle.riscv32imc_predicate.specs.declared.Reached.{Reached}
 use Rattle.riscv32imc_predicate.specs.declared.ready.Instruction.{Instruction}
 use Rattle.riscv32imc_predicate.specs.declared.ready.Instruction.the-variants as instruction
@@ -53,9 +53,11 @@ pub record Call : Type 0 where
   pub rows : ℕ
   pub trace : List ℕ
 
+-- .. by lent rows
 abbrev pub called : List ℕ → Rv32SymbolLayout → List ℕ → List ℕ → Call
 called image symbols rows trace = record { image = image; symbols = symbols; rows = rowCount rows; trace = trace }
 
+-- its program and its setup
 abbrev pub program : Call → Program
 program c = standing (c .image) (c .symbols)
 
@@ -63,8 +65,8 @@ abbrev pub space : Call → Setup
 space c = setup (c .rows) (entryCount (c .trace))
 
 -- the state before any step
-abbrev pub first : Call → LaneState
-first c = begin (program c) (space c)
+abbrev pub firstState : Call → LaneState
+firstState c = begin (program c) (space c)
 
 -- the rest of the run from a state
 abbrev pub rest : Call → LaneState → Lane.Ended
@@ -83,7 +85,7 @@ module _ (c : Call) where
     pub traced : trace ≡ over (traceBytes (s .trace)) (c .trace)
 
   -- a fetched instruction, with the run short of stop and of the bound
-  pub record Goes (progress : Progress) (s : LaneState) : Type 0 where
+  pub record Continues (progress : Progress) (s : LaneState) : Type 0 where
     pub moving : eqb (s .pc) stop ≡ false
     pub below : s .steps < maxSteps
     pub instruction : Fetched
@@ -100,9 +102,10 @@ module _ (c : Call) where
 
   -- what comes at a state: a step, or the end
   abbrev pub Comes : Bool → Progress → LaneState → Type 0
-  Comes true progress s = Goes progress s
+  Comes true progress s = Continues progress s
   Comes false progress s = Ends (progress .ending) s
 
+  -- .. as the code has it
   abbrev pub Ready : Progress → LaneState → Type 0
   Ready progress s = Comes (progress .more) progress s
 
@@ -113,7 +116,7 @@ module _ (c : Call) where
     pub keeps : Keeps (r .recorded) (state .locations)
     pub ends : Ends (r .ending) state
     pub return-word : r .x10 ≡ reg (program c) (space c) state 10
-    pub same-rest : rest c (first c) ≡ rest c state
+    pub same-rest : rest c (firstState c) ≡ rest c state
 
 -- ---- the parts of a step
 
@@ -152,6 +155,7 @@ pub record IsAt (c : Call) (image rows : List ℕ) (place : Place) (s : LaneStat
 abbrev pub Readies : List ℕ → List ℕ → Place → Progress → Type 0
 Readies image rows place r = (c : Call) (s : LaneState) → IsAt c image rows place s → Ready c r s
 
+-- .. and the place is that one
 abbrev pub Readied : List ℕ → List ℕ → Place → Progress → Type 0
 Readied image rows place r = (r .place ≡ place) × Readies image rows place r
 
@@ -159,7 +163,7 @@ Readied image rows place r = (r .place ≡ place) × Readies image rows place r
 abbrev pub LastTested : Decision → ℕ → ℕ → Decision → Type 0
 LastTested x steps entries y =
     ((m : LaneBytes) (w r : LaneWord) → decisionOf m w r y ≡ lastTested (decisionOf m w r x) steps entries)
-    × ((u : Uniform) → Fits u x → Fits u y)
+    × ((u : Uniform) → Suits u x → Suits u y)
 
 -- a fetched step, in every state that the code is given, comes to the semantics' operation and the last test
 abbrev pub Decides : List ℕ → List ℕ → Progress → Uniform → ℕ → Decision → Type 0
@@ -180,13 +184,14 @@ pub record Completes (image rows : List ℕ) (progress : Progress) (next new : �
   pub moves : r .place ≡ movedTo (progress .place) next new
   pub readies : Readies image rows (r .place) r
 
--- what comes after a change: the step's entry and the next place, or the end
+-- a refused step: the end, with place and trace as before
 pub record Stays (progress : Progress) (e : Rv32Error) (trace : List ℕ) (r : Progress) (trace′ : List ℕ) : Type 0 where
   pub no-more : r .more ≡ false
   pub ends : r .ending ≡ ending.Refused e
   pub same-place : r .place ≡ progress .place
   pub same-trace : trace′ ≡ trace
 
+-- what comes after a decision: the step's entry and the next place, or the end
 abbrev pub Follows : List ℕ → List ℕ → Progress → ℕ → List ℕ → Progress → List ℕ → Decision → Type 0
 Follows image rows progress new trace r trace′ (decision.Goes x next) = Completes image rows progress next new trace r trace′
 Follows image rows progress new trace r trace′ (decision.Refused e) = Stays progress e trace r trace′
@@ -203,4 +208,4 @@ startRecorded = record { count = 0; locations = replicate maxEvents 0 }
 
 -- the code is where the run begins
 abbrev pub Begins : Call → List ℕ → Place → Type 0
-Begins c rows place = Tracks c place rows (c .trace) (first c)
+Begins c rows place = Tracks c place rows (c .trace) (firstState c)

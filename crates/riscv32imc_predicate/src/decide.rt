@@ -22,12 +22,12 @@ ghost use Rattle.predicate_action.specs.Meaning.{extensionOf};
 ghost use Rattle.predicate_semantics.specs.Lane.{roomFor};
 ghost use Rattle.lane_memory.specs.Rows.{rowCount, newBytes};
 ghost use Rattle.lane_access.specs.Answers.{verdictOf};
-ghost use Rattle.riscv32imc_predicate.specs.Changes.{Fits, changeOf, SetsComputed, JumpsTo, Branches, LoadsFrom, StoresTo, ExecutesAction};
+ghost use Rattle.riscv32imc_predicate.specs.Changes.{Suits, changeOf, SetsComputed, JumpsTo, Branches, LoadsFrom, StoresTo, ExecutesAction};
 ghost use Rattle.riscv32imc_predicate.specs.Tracking.{LastTested, Decides};
 
 // A computed word that is uniform is set as one value.
 fn compute(rd: u32, tested: Uniform, next: u32) -> Decision
-    ensures { λ r. ⌜ SetsComputed r rd tested next × Fits tested r ⌝ }
+    ensures { λ r. ⌜ SetsComputed r rd tested next × Suits tested r ⌝ }
 {
     match tested {
         Uniform::Value(value) => Decision::Goes {
@@ -47,7 +47,7 @@ fn compute(rd: u32, tested: Uniform, next: u32) -> Decision
 
 // JALR: the target, whose bit 0 is cleared, must not be 0.
 fn jump_to(rd: u32, tested: Uniform, next: u32) -> Decision
-    ensures { λ r. ⌜ JumpsTo r rd tested next × Fits tested r ⌝ }
+    ensures { λ r. ⌜ JumpsTo r rd tested next × Suits tested r ⌝ }
 {
     let agreed = agreed_in(tested, Role::JumpTarget);
     match agreed {
@@ -65,7 +65,7 @@ fn jump_to(rd: u32, tested: Uniform, next: u32) -> Decision
 }
 
 fn branch(tested: Uniform, target: u32, next: u32) -> Decision
-    ensures { λ r. ⌜ Branches r tested target next × Fits tested r ⌝ }
+    ensures { λ r. ⌜ Branches r tested target next × Suits tested r ⌝ }
 {
     let agreed = agreed_in(tested, Role::Branch);
     match agreed {
@@ -105,7 +105,7 @@ fn load(
     image: &[u8],
     rows: &[u8],
 ) -> Decision
-    ensures { λ r. ⌜ LoadsFrom (now (image .entry)) (now (rows .entry)) r rd tested width extension next × Fits tested r ⌝ }
+    ensures { λ r. ⌜ LoadsFrom (now (image .entry)) (now (rows .entry)) r rd tested width extension next × Suits tested r ⌝ }
 {
     let agreed = agreed_in(tested, Role::LoadAddress);
     match agreed {
@@ -165,7 +165,7 @@ fn room_for(address: u32, width: u32, size: usize, rows: &[u8], written: u32) ->
 }
 
 fn store(tested: Uniform, width: u32, next: u32, size: usize, rows: &[u8], written: u32) -> Decision
-    ensures { λ r. ⌜ StoresTo (now (rows .entry)) written size r tested width next × Fits tested r ⌝ }
+    ensures { λ r. ⌜ StoresTo (now (rows .entry)) written size r tested width next × Suits tested r ⌝ }
 {
     let agreed = agreed_in(tested, Role::StoreAddress);
     match agreed {
@@ -192,7 +192,7 @@ fn execute(
     rows: &[u8],
     written: u32,
 ) -> Decision
-    ensures { λ r. ⌜ ExecutesAction (now (image .entry)) (now (rows .entry)) written r next tested action × Fits tested r ⌝ }
+    ensures { λ r. ⌜ ExecutesAction (now (image .entry)) (now (rows .entry)) written r next tested action × Suits tested r ⌝ }
 {
     match action {
         Action::Nothing => Decision::Goes {
@@ -242,7 +242,7 @@ pub fn decide(
     rows: &[u8],
     entries: usize,
 ) -> Decision
-    ensures { λ r. ⌜ Decides (now (image .entry)) (now (rows .entry)) progress tested entries r × Fits tested r ⌝ }
+    ensures { λ r. ⌜ Decides (now (image .entry)) (now (rows .entry)) progress tested entries r × Suits tested r ⌝ }
 {
     let place = progress.place;
     let action = progress.action;

@@ -12,7 +12,7 @@ use Rattle.predicate_semantics.specs.Program.{stop, stopWord}
 use Rattle.lane_memory.specs.Rows.{rowCount, storeValues, cleared}
 use Rattle.lane_memory.proofs.Laws.{cleared-store-value}
 use Rattle.lane_access.specs.Answers.{verdictOf, refusalOf}
-use Rattle.riscv32imc_predicate.specs.Tracking.{Call, called, program, space, first, Begins, Arrives}
+use Rattle.riscv32imc_predicate.specs.Tracking.{Call, called, program, space, firstState, Begins, Arrives}
 use Rattle.riscv32imc_predicate.proofs.Following.{sees}
 use Rattle.riscv32imc_predicate.proofs.Running.{run-refused-first, reports-refused, begins, runs-as, arrives, ended-refused, ended-arrived, counts, events-low}
 use Rattle.riscv32imc_predicate.proofs.outcome.run.Statement.{statement}
@@ -99,7 +99,7 @@ run-spec =
     runs-as (now (a .image)) (a .symbols) (now (a .rows)) (now (a .trace)) _
     (run-refused-first d (refusalOf x)
     (ap (startTests (length (now (a .image))) (a .symbols)) (sym (t .before .row-count .ensures)) ∙ sym (t .start-test .ensures) ∙ ap verdictOf (g .started .given .1)))
-    (reports-refused d (first d) _ x 0 refl refl (c .refused .ensures)) (refl, refl))
+    (reports-refused d (firstState d) _ x 0 refl refl (c .refused .ensures)) (refl, refl))
     (λ c. search needs)
     (λ c κs. search needs)
     (λ c κs. search needs)
