@@ -22,7 +22,7 @@ use Rattle.lane_record.specs.declared.RecordAnswer.the-variants as recorded
 use Rattle.lane_record.specs.declared.RecordOutcome.{RecordOutcome}
 use Rattle.lane_record.specs.Format.{heading, widths, Record, accepted, refused, executionValues, FitsRecord}
 use Rattle.lane_record.specs.Rules.{executionValid, valid}
-use Rattle.lane_record.specs.Decode.{decode}
+use Rattle.lane_record.specs.Decode.{decodeRecord}
 use Rattle.lane_record.specs.Answers.{Said, done, wrote, refuses, writeSaid, noOutcome, acceptedOutcome, readAnswer, readOutcome, readTrace, given, writeAnswer, writeOutput}
 use Rattle.lane_record.proofs.TestLaws.{both, yes}
 use Rattle.lane_record.proofs.DecodeLaws.{rules, decode-same}
@@ -134,7 +134,7 @@ module _ (c : Rewriting) where
   abbrev Same : Type 0
   Same = (c .r ≡ 0) × (c .written ≡ length (c .bs)) × (c .out′ ≡ over (c .bs) (c .out))
 
-  again : (x : Record) → decode (c .bs) ≡ some x → ReadsWords (some x) (c .t) (c .ws) 0 (c .t′) (c .ws′) → Same
+  again : (x : Record) → decodeRecord (c .bs) ≡ some x → ReadsWords (some x) (c .t) (c .ws) 0 (c .t′) (c .ws′) → Same
   again x e h =
       let n : ℕ = length (c .t) in
       let o : RecordOutcome = readOutcome (some x) n in
@@ -150,7 +150,7 @@ module _ (c : Rewriting) where
       w .held .answer ∙ ap (λ (q : Option Record). writeAnswer q (length (c .out))) g ∙ y .0 in
       (w .code-is ∙ ap code said, w .count-is ∙ ap count said, w .held .output ∙ ap (λ (q : Option Record). writeOutput q (c .out)) g ∙ y .1)
 
-  again-by : (q : Option Record) → decode (c .bs) ≡ q → ReadsWords q (c .t) (c .ws) 0 (c .t′) (c .ws′) → Same
+  again-by : (q : Option Record) → decodeRecord (c .bs) ≡ q → ReadsWords q (c .t) (c .ws) 0 (c .t′) (c .ws′) → Same
   again-by none e h = let z : _≡_ {A = ℕ} 0 15 = h .answer in absurd (omega arith)
   again-by (some x) e h = again x e h
 
@@ -171,4 +171,4 @@ rewrites bs t ws t′ ws′ b h out r out′ written l w =
       room = l;
       writes = w;
     })
-    (decode bs) refl h
+    (decodeRecord bs) refl h

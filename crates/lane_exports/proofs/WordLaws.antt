@@ -24,7 +24,7 @@ use Rattle.lane_record.specs.declared.ReadAnswer.{ReadAnswer}
 use Rattle.lane_record.specs.declared.ReadAnswer.the-variants as read
 use Rattle.lane_record.specs.declared.RecordReading.{RecordReading}
 use Rattle.lane_record.specs.declared.WriteAnswer.{WriteAnswer}
-use Rattle.lane_record.specs.Format.{heading, refusal, mark, widths, Record, executionValues, executionOf, eventValues, eventOf, refusalOf}
+use Rattle.lane_record.specs.Format.{heading, refusal, kindByte, widths, Record, executionValues, executionFrom, eventValues, eventFrom, refusalFrom}
 use Rattle.lane_record.specs.Answers.{Said, readSaid, readAnswer, given, Reads, Writes}
 use Rattle.lane_record.proofs.TestLaws.{both}
 use Rattle.lane_exports.specs.Boundary.{headingAt, eventWordsAt, outcomeSize, answerWords, eventWords, outcomeWords, code, wordsAfter, ReadsWords, fit, formed, eventsFrom, outcomeFrom}
@@ -103,7 +103,7 @@ pub record Narrow (ws : List ℕ) : Type 0 where
 
 pub narrow : (ws : List ℕ) → formed ws ≡ true → Narrow ws
 narrow ws e =
-    let K : Bool = eqb (getD ws 0 0) (mark heading) || eqb (getD ws 0 0) (mark refusal) in
+    let K : Bool = eqb (getD ws 0 0) (kindByte heading) || eqb (getD ws 0 0) (kindByte refusal) in
     let H = both (K && fit (widths refusal) 1 ws) (fit (widths heading) headingAt ws) e in
     let R = both K (fit (widths refusal) 1 ws) (H .0) in
     let r1 = both (ltb (getD ws 1 0) 256) _ (R .1) in
@@ -128,7 +128,7 @@ ending true = refl
 ending false = refl
 
 pub refusal-words : (ws : List ℕ)
-    → _≡_ {A = RecordRefusal} (record { number = getD ws 1 0; role = getD ws 2 0; steps = getD ws 3 0 }) (refusalOf (drop 1 ws))
+    → _≡_ {A = RecordRefusal} (record { number = getD ws 1 0; role = getD ws 2 0; steps = getD ws 3 0 }) (refusalFrom (drop 1 ws))
 refusal-words ws = rw (getD-drop 1 ws 0 0, getD-drop 1 ws 1 0, getD-drop 1 ws 2 0)
 
 pub execution-words : (ws : List ℕ)
@@ -142,12 +142,12 @@ pub execution-words : (ws : List ℕ)
       «sparse_memory_bytes» = getD ws 9 0;
       «event_count» = getD ws 10 0;
     })
-    (executionOf (drop headingAt ws))
+    (executionFrom (drop headingAt ws))
 execution-words ws =
     rw (getD-drop 4 ws 0 0, getD-drop 4 ws 1 0, getD-drop 4 ws 2 0, getD-drop 4 ws 3 0, getD-drop 4 ws 4 0, getD-drop 4 ws 5 0, getD-drop 4 ws 6 0)
 
 pub event-words : (ws : List ℕ) (at : ℕ)
-    → _≡_ {A = CompiledMmioEvent} (record { operation = getD ws at 0; offset = getD ws (at + 1) 0; value = getD ws (at + 2) 0; location = getD ws (at + 3) 0 }) (eventOf (drop at ws))
+    → _≡_ {A = CompiledMmioEvent} (record { operation = getD ws at 0; offset = getD ws (at + 1) 0; value = getD ws (at + 2) 0; location = getD ws (at + 3) 0 }) (eventFrom (drop at ws))
 event-words ws at = rw (getD-drop at ws 0 0, getD-drop at ws 1 0, getD-drop at ws 2 0, getD-drop at ws 3 0, add-zero at)
 
 length-from : (n : ℕ) (ws : List ℕ) → length (eventsFrom n ws) ≡ n
@@ -166,7 +166,7 @@ gathering-start ws es h =
     record { long = h; within = omega arith; place = refl; rest = sym (whole (eventsFrom maxEvents (drop eventWordsAt ws)) es (length-from maxEvents (drop eventWordsAt ws) ∙ sym h)) }
 
 module _ {ws : List ℕ} {final es : List CompiledMmioEvent} {k at : ℕ} (c : Gathering ws final es k at) where
-  pub gathering-step : (e : CompiledMmioEvent) → k < maxEvents → e ≡ eventOf (drop at ws) → Gathering ws final (set es k e) (k + 1) (at + 4)
+  pub gathering-step : (e : CompiledMmioEvent) → k < maxEvents → e ≡ eventFrom (drop at ws) → Gathering ws final (set es k e) (k + 1) (at + 4)
   gathering-step e h q =
       let e1 : maxEvents - k ≡ suc (maxEvents - (k + 1)) = omega arith in
       record {

@@ -15,8 +15,8 @@ use Rattle.lane_record.specs.declared.RecordAnswer.{RecordAnswer}
 use Rattle.lane_record.specs.declared.RecordAnswer.the-variants as recorded
 use Rattle.lane_record.specs.declared.RecordOutcome.{RecordOutcome}
 use Rattle.lane_record.specs.declared.WriteAnswer.{WriteAnswer}
-use Rattle.lane_record.specs.Format.{heading, event, refusal, mark, widths, Record, executionValues, executionOf, eventValues, eventOf, refusalValues, refusalOf}
-use Rattle.lane_record.specs.Decode.{decode}
+use Rattle.lane_record.specs.Format.{heading, event, refusal, kindByte, widths, Record, executionValues, executionFrom, eventValues, eventFrom, refusalValues, refusalFrom}
+use Rattle.lane_record.specs.Decode.{decodeRecord}
 use Rattle.lane_record.specs.Answers.{Said, wrote, done, refuses, writeSaid, noOutcome, readAnswer, readOutcome, readTrace, given, Writes}
 use Rattle.lane_library.specs.Outcome.{count}
 
@@ -49,8 +49,8 @@ outcomeSize = eventWordsAt + length noEvents * length (widths event)
 
 -- Record: the kind that begins one, then what a refusal says, which an acceptance leaves 0
 abbrev pub answerWords : RecordAnswer → List ℕ
-answerWords recorded.Accepted = mark heading ∷ 0 ∷ 0 ∷ 0 ∷ []
-answerWords (recorded.Refused f) = mark refusal ∷ refusalValues f
+answerWords recorded.Accepted = kindByte heading ∷ 0 ∷ 0 ∷ 0 ∷ []
+answerWords (recorded.Refused f) = kindByte refusal ∷ refusalValues f
 
 -- Record: an event after another, a word for each of its fields
 abbrev pub eventWords : List CompiledMmioEvent → List ℕ
@@ -83,18 +83,18 @@ fit (width ∷ widths) at ws = ltb (getD ws at 0) (256 ^ width) && fit widths (s
 -- a kind that an answer has, and no word too large for its place
 abbrev pub formed : List ℕ → Bool
 formed ws =
-    (eqb (getD ws 0 0) (mark heading) || eqb (getD ws 0 0) (mark refusal))
+    (eqb (getD ws 0 0) (kindByte heading) || eqb (getD ws 0 0) (kindByte refusal))
     && fit (widths refusal) 1 ws
     && fit (widths heading) headingAt ws
 
 -- Record: the answer by its kind
 abbrev pub answerFrom : List ℕ → RecordAnswer
-answerFrom ws = cond (eqb (getD ws 0 0) (mark heading)) recorded.Accepted (recorded.Refused (refusalOf (drop 1 ws)))
+answerFrom ws = cond (eqb (getD ws 0 0) (kindByte heading)) recorded.Accepted (recorded.Refused (refusalFrom (drop 1 ws)))
 
 -- Record: so many events, one after another
 abbrev pub eventsFrom : ℕ → List ℕ → List CompiledMmioEvent
 eventsFrom zero ws = []
-eventsFrom (suc n) ws = eventOf ws ∷ eventsFrom n (drop (length (widths event)) ws)
+eventsFrom (suc n) ws = eventFrom ws ∷ eventsFrom n (drop (length (widths event)) ws)
 
 -- Who causes a refusal: words that are not so formed stand for no outcome, and no record has a refusal numbered 0
 abbrev pub outcomeFrom : List ℕ → RecordOutcome
@@ -102,7 +102,7 @@ outcomeFrom ws =
     cond (formed ws)
     (record {
       answer = answerFrom ws;
-      execution = executionOf (drop headingAt ws);
+      execution = executionFrom (drop headingAt ws);
       events = eventsFrom (length noEvents) (drop eventWordsAt ws);
     })
     noOutcome
@@ -135,6 +135,6 @@ WordsBack = (o : RecordOutcome) → FitsTypes o → outcomeFrom (outcomeWords o)
 -- what lane_read_record took, lane_write_record writes again byte for byte
 abbrev pub Rewrites : Type 0
 Rewrites =
-    (bs t ws t′ ws′ : List ℕ) → AllBytes bs → ReadsWords (decode bs) t ws 0 t′ ws′
+    (bs t ws t′ ws′ : List ℕ) → AllBytes bs → ReadsWords (decodeRecord bs) t ws 0 t′ ws′
     → (out : List ℕ) (r : ℕ) (out′ : List ℕ) (written : ℕ) → length bs ≤ length out → WritesWords ws′ t′ out r out′ written
     → (r ≡ 0) × (written ≡ length bs) × (out′ ≡ over bs out)

@@ -18,7 +18,7 @@ ghost use Prim.Native.Nat.{_+_, _≤_};
 ghost use lib.Dec.{eqb};
 ghost use lib.ListN.{drop};
 ghost use Rattle.predicate_semantics.specs.Program.{maxEvents};
-ghost use Rattle.lane_record.specs.Format.{heading, refusal, mark, widths, executionOf, eventOf, refusalOf};
+ghost use Rattle.lane_record.specs.Format.{heading, refusal, kindByte, widths, executionFrom, eventFrom, refusalFrom};
 ghost use Rattle.lane_exports.specs.Boundary as boundary;
 ghost use Rattle.lane_exports.specs.Boundary.{headingAt, eventWordsAt, outcomeSize, fit, answerFrom, eventsFrom, outcomeFrom};
 
@@ -35,7 +35,7 @@ fn and(a: bool, b: bool) -> bool
 }
 
 fn is_kind(x: u32) -> bool
-    ensures { λ r. ⌜ r ≡ (eqb x (mark heading) || eqb x (mark refusal)) ⌝ }
+    ensures { λ r. ⌜ r ≡ (eqb x (kindByte heading) || eqb x (kindByte refusal)) ⌝ }
 {
     x == ACCEPTED || x == REFUSED
 }
@@ -81,7 +81,7 @@ fn formed(s: &[u32; OUTCOME_WORDS]) -> bool
 
 fn refusal_from(s: &[u32; OUTCOME_WORDS]) -> RecordRefusal
     requires { ⌜ boundary.formed (now s) ≡ true ⌝ }
-    ensures { λ r. ⌜ r ≡ refusalOf (drop 1 (now (s .entry))) ⌝ }
+    ensures { λ r. ⌜ r ≡ refusalFrom (drop 1 (now (s .entry))) ⌝ }
 {
     RecordRefusal {
         number: s[1] as u8,
@@ -103,7 +103,7 @@ fn answer_from(s: &[u32; OUTCOME_WORDS]) -> RecordAnswer
 
 fn execution_from(s: &[u32; OUTCOME_WORDS]) -> PredicateTransducerExecution
     requires { ⌜ boundary.formed (now s) ≡ true ⌝ }
-    ensures { λ r. ⌜ r ≡ executionOf (drop headingAt (now (s .entry))) ⌝ }
+    ensures { λ r. ⌜ r ≡ executionFrom (drop headingAt (now (s .entry))) ⌝ }
 {
     PredicateTransducerExecution {
         first_input: s[HEADING_AT] as u8,
@@ -118,7 +118,7 @@ fn execution_from(s: &[u32; OUTCOME_WORDS]) -> PredicateTransducerExecution
 
 fn event_from(s: &[u32; OUTCOME_WORDS], at: usize) -> CompiledMmioEvent
     requires { ⌜ at + 4 ≤ outcomeSize ⌝ }
-    ensures { λ r. ⌜ r ≡ eventOf (drop at (now (s .entry))) ⌝ }
+    ensures { λ r. ⌜ r ≡ eventFrom (drop at (now (s .entry))) ⌝ }
 {
     CompiledMmioEvent {
         operation: s[at],

@@ -9,7 +9,7 @@ use predicate_semantics::Rv32SymbolLayout;
 use words::OUTCOME_WORDS;
 use words::words_of;
 ghost use mathlib.Core.Path.{_≡_};
-ghost use Rattle.lane_record.specs.Decode.{decode};
+ghost use Rattle.lane_record.specs.Decode.{decodeRecord};
 ghost use Rattle.lane_record.specs.Answers.{readSaid, writeSaid, given, Writes};
 ghost use Rattle.lane_library.specs.Outcome.{lent, LaneRuns, ImageRuns};
 ghost use Rattle.lane_exports.specs.Boundary.{code, outcomeFrom, Coded, ReadsWords, WritesWords};
@@ -78,7 +78,7 @@ pub extern "C" fn lane_read_record(
     trace: &mut [u8],
     outcome: &mut [u32; OUTCOME_WORDS],
 ) -> u32
-    ensures { λ r. ⌜ ReadsWords (decode (now (bytes .entry))) (now (trace .entry)) (now (outcome .entry)) r (now (trace .exit)) (now (outcome .exit)) ⌝ }
+    ensures { λ r. ⌜ ReadsWords (decodeRecord (now (bytes .entry))) (now (trace .entry)) (now (outcome .entry)) r (now (trace .exit)) (now (outcome .exit)) ⌝ }
 {
     let reading = lane_record::read_record(bytes, trace);
     let answer = reading.answer;

@@ -33,7 +33,7 @@ use Rattle.lane_record.specs.declared.RecordOutcome.{RecordOutcome}
 use Rattle.lane_record.specs.declared.RecordReading.{RecordReading}
 use Rattle.lane_record.specs.declared.WriteAnswer.{WriteAnswer}
 use Rattle.lane_record.specs.Format.{Record, accepted, refused, encode}
-use Rattle.lane_record.specs.Decode.{decode}
+use Rattle.lane_record.specs.Decode.{decodeRecord}
 use Rattle.lane_record.specs.Answers.{Said, done, wrote, refuses, readSaid, writeSaid, acceptedOutcome, noOutcome, Reads, Writes}
 use Rattle.lane_record.specs.Runs.{recordIn}
 use Rattle.lane_record.proofs.AnswerLaws.{length-encode}
@@ -51,8 +51,8 @@ module _ (x : Record) (output : List ℕ) (w : WriteAnswer) (output′ : List �
   written n e = fits-by n (length (encode x)) (length output) (leb (length (encode x)) (length output)) refl (sym e ∙ h .answer)
 
   -- and reads as itself
-  pub decodes : (n : ℕ) → writeSaid w ≡ wrote n → decode (take n output′) ≡ some x
-  decodes n e = let f = written n e in subst (λ (k : ℕ). decode (take k output′) ≡ some x) (sym (f .0)) (h .back x refl (f .1))
+  pub decodes : (n : ℕ) → writeSaid w ≡ wrote n → decodeRecord (take n output′) ≡ some x
+  decodes n e = let f = written n e in subst (λ (k : ℕ). decodeRecord (take k output′) ≡ some x) (sym (f .0)) (h .back x refl (f .1))
 
 -- ---- what is read of it
 

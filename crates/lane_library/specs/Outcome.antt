@@ -21,7 +21,7 @@ use Rattle.lane_record.specs.declared.RecordOutcome.{RecordOutcome}
 use Rattle.lane_record.specs.declared.RecordReading.{RecordReading}
 use Rattle.lane_record.specs.declared.WriteAnswer.{WriteAnswer}
 use Rattle.lane_record.specs.Format.{heading, event, step, size, Record, refused, encode}
-use Rattle.lane_record.specs.Decode.{decode}
+use Rattle.lane_record.specs.Decode.{decodeRecord}
 use Rattle.lane_record.specs.Answers.{Said, wrote, done, refuses, readSaid, writeSaid, Reads, Writes}
 use Rattle.lane_record.specs.Runs.{recordIn}
 use Rattle.riscv32imc_predicate.specs.declared.PredicateAnswer.{PredicateAnswer}
@@ -109,7 +109,7 @@ resultRead o t =
 abbrev pub Promise : List ℕ → Rv32SymbolLayout → WriteAnswer → List ℕ → Type 0
 Promise image symbols r output =
     (n : ℕ) → writeSaid r ≡ wrote n
-    → (t : List ℕ) (reading : RecordReading) (t′ : List ℕ) → Reads (decode (take n output)) t reading t′
+    → (t : List ℕ) (reading : RecordReading) (t′ : List ℕ) → Reads (decodeRecord (take n output)) t reading t′
     → readSaid (reading .answer) ≡ done → reading .outcome .answer ≡ recorded.Accepted
     → (i : ℕ) → firstInput ≤ i → i ≤ lastInput
     → (others : ℕ → ℕ) → standingScalarRun image symbols i others ≡ some (resultRead (reading .outcome) t′)

@@ -21,7 +21,7 @@ use Rattle.predicate_semantics.specs.Program.{Program, maxEvents}
 use Rattle.predicate_semantics.specs.State.{Result}
 use Rattle.predicate_semantics.specs.Refusal.{Tested, passed}
 use Rattle.predicate_semantics.specs.Refusal as Refusal
-use Rattle.predicate_semantics.specs.Lane.{LaneState, Setup, Ended, lanes, laneOperations, writtenBytes, execution}
+use Rattle.predicate_semantics.specs.Lane.{LaneState, Setup, Ended, laneCount, laneOperations, writtenBytes, execution}
 use Rattle.predicate_semantics.specs.RecordRules.{Chain, Completed, Accepted, proper}
 use Rattle.predicate_semantics.specs.Standing.{standing, setup, standingLaneRun}
 use Rattle.predicate_semantics.specs.Blank.{noEvents}
@@ -85,7 +85,7 @@ module _ (image : List ℕ) (symbols : Rv32SymbolLayout) (rows entries : ℕ) wh
     same-events = take-append-seam (r .events) (drop (length (r .events)) noEvents)
 
     rules : valid (accepted (execution p l s r) events (s .trace)) ≡ true
-    unfolding execution lanes laneOperations writtenBytes setup inputs
+    unfolding execution laneCount laneOperations writtenBytes setup inputs
     rules =
         yes (yes (yes
         (yes (yes (yes (yes (yes refl refl)

@@ -13,7 +13,7 @@ use Rattle.predicate_semantics.specs.Refusal as Refusal
 use Rattle.predicate_semantics.specs.Standing.{lastInput, standingScalarRun}
 use Rattle.lane_record.specs.declared.WriteAnswer.{WriteAnswer}
 use Rattle.lane_record.specs.Format.{Record, accepted, refused}
-use Rattle.lane_record.specs.Decode.{decode}
+use Rattle.lane_record.specs.Decode.{decodeRecord}
 use Rattle.lane_record.specs.Answers.{Said, done, wrote, refuses, writeSaid}
 use Rattle.riscv32imc_predicate.specs.declared.PredicateRun.{PredicateRun}
 use Rattle.riscv32imc_predicate.specs.Outcome.{resultIn, Ran}
@@ -109,7 +109,7 @@ pub record LibraryOutput : Type 0 where
 
 -- the record that the written bytes are
 abbrev pub written : Said → List ℕ → Option Record
-written (wrote n) output = decode (take n output)
+written (wrote n) output = decodeRecord (take n output)
 written done output = none
 written (refuses n) output = none
 
