@@ -1,18 +1,16 @@
 -- Number and role of each refusal of the code (document 01, "Who causes a refusal"), and what the code's answers are in the semantics.
 use mathlib.Core.List.{List}
 use Prim.Native.Nat.{ℕ}
+use Rattle.predicate_answer.specs.Refusal.{refusalOf}
 use Rattle.riscv_decode.specs.declared.Fetched.{Fetched}
 use Rattle.lane_word.specs.declared.LaneWord.{LaneWord}
 use Rattle.lane_word.specs.declared.Told.{Told}
 use Rattle.lane_word.specs.declared.Told.the-variants as told
 use Rattle.lane_word.specs.Word.{unknown, lanes}
-use Rattle.predicate_semantics.specs.Refusal.{Refusal, Tested, passed, refused, _>>=_}
+use Rattle.predicate_semantics.specs.Tested.{Tested, passed, refused, _>>=_}
+use Rattle.predicate_answer.specs.Refusal.{Refusal}
 use Rattle.predicate_semantics.specs.Lane.{inside}
 use Rattle.lane_access.specs.Seen.{toldSeen, toldRead}
-use Rattle.lane_access.specs.declared.Role.{Role}
-use Rattle.lane_access.specs.declared.Role.the-variants as role
-use Rattle.lane_access.specs.declared.Rv32Error.{Rv32Error}
-use Rattle.lane_access.specs.declared.Rv32Error.the-variants as error
 use Rattle.lane_access.specs.declared.Verdict.{Verdict}
 use Rattle.lane_access.specs.declared.Verdict.the-variants as verdict
 use Rattle.lane_access.specs.declared.Agreed.{Agreed}
@@ -22,36 +20,6 @@ use Rattle.lane_access.specs.declared.Loading.{Loading}
 use Rattle.lane_access.specs.declared.Loading.the-variants as loading
 use Rattle.lane_access.specs.declared.Fetching.{Fetching}
 use Rattle.lane_access.specs.declared.Fetching.the-variants as fetching
-
--- what the word was read for, as a number
-abbrev pub roleOf : Role → ℕ
-roleOf role.Fetch = 1
-roleOf role.JumpTarget = 2
-roleOf role.LoadAddress = 3
-roleOf role.StoreAddress = 4
-roleOf role.Branch = 5
-roleOf role.ReturnValue = 6
-roleOf role.EventCount = 7
-roleOf role.EventOperation = 8
-roleOf role.EventOffset = 9
-roleOf role.EventValue = 10
-
--- only the two refusals of a uniform test have a role
-abbrev pub refusalOf : Rv32Error → Refusal
-refusalOf error.ImageSize = record { number = 1; role = 0 }
-refusalOf error.SymbolOutside = record { number = 2; role = 0 }
-refusalOf error.StepLimit = record { number = 3; role = 0 }
-refusalOf error.BelowMemory = record { number = 4; role = 0 }
-refusalOf error.PastMemory = record { number = 5; role = 0 }
-refusalOf (error.Unknown r) = record { number = 6; role = roleOf r }
-refusalOf (error.NotUniform r) = record { number = 7; role = roleOf r }
-refusalOf error.Halfword = record { number = 8; role = 0 }
-refusalOf error.Word = record { number = 9; role = 0 }
-refusalOf error.ZeroTarget = record { number = 10; role = 0 }
-refusalOf error.StoreBelowImageEnd = record { number = 11; role = 0 }
-refusalOf error.EventCount = record { number = 12; role = 0 }
-refusalOf error.NoRow = record { number = 13; role = 0 }
-refusalOf error.NoTraceEntry = record { number = 14; role = 0 }
 
 abbrev pub verdictOf : Verdict → Tested (Unit {0})
 verdictOf verdict.Passed = passed tt

@@ -12,8 +12,11 @@ ghost use Rattle.predicate_semantics.specs.Standing.{standingCore};
 ghost use Rattle.lane_memory.specs.Rows.{Joined};
 ghost use Rattle.lane_access.specs.Seen.{offsetOf, seen, toldSeen, toldRead};
 ghost use Rattle.lane_access.specs.Whole.{FromImage};
-ghost use Rattle.lane_access.specs.Answers.{roleOf, verdictOf, agreedOf, accessedOf, accessedAs, loadingOf, toldLoad, fetchingOf};
+ghost use Rattle.lane_access.specs.Answers.{verdictOf, agreedOf, accessedOf, accessedAs, loadingOf, toldLoad, fetchingOf};
+ghost use Rattle.predicate_answer.specs.Refusal.{roleOf};
 use lane_word::LaneWord;
+use predicate_answer::Role;
+use predicate_answer::Rv32Error;
 use lane_word::Told;
 use lane_word::Uniform;
 use riscv_decode::Decoded;
@@ -24,38 +27,6 @@ use riscv32imc::arithmetic::join;
 // The address past memory's end.
 pub const RV32_MEMORY_END: u32 = riscv32imc::RV32_IMAGE_BASE
     + riscv32imc::MAX_RV32_MEMORY_BYTES as u32;
-
-// What a word that is not known or not uniform was read for.
-pub enum Role {
-    Fetch,
-    JumpTarget,
-    LoadAddress,
-    StoreAddress,
-    Branch,
-    ReturnValue,
-    EventCount,
-    EventOperation,
-    EventOffset,
-    EventValue,
-}
-
-// The refusals of a run.
-pub enum Rv32Error {
-    ImageSize,
-    SymbolOutside,
-    StepLimit,
-    BelowMemory,
-    PastMemory,
-    Unknown(Role),
-    NotUniform(Role),
-    Halfword,
-    Word,
-    ZeroTarget,
-    StoreBelowImageEnd,
-    EventCount,
-    NoRow,
-    NoTraceEntry,
-}
 
 // A test passed, or its refusal.
 pub enum Verdict {

@@ -11,12 +11,12 @@ use lib.ListN.{length, drop, length-append, length-drop}
 use Rattle.little_endian.specs.Number.{AllBytes}
 use Rattle.little_endian.specs.Pack.{Fits}
 use Rattle.little_endian.specs.Lent.{over}
-use Rattle.predicate_semantics.specs.declared.CompiledMmioEvent.{CompiledMmioEvent}
-use Rattle.predicate_semantics.specs.declared.PredicateControlStep.{PredicateControlStep}
-use Rattle.predicate_semantics.specs.declared.PredicateTransducerExecution.{PredicateTransducerExecution}
-use Rattle.predicate_semantics.specs.Program.{maxEvents}
-use Rattle.predicate_semantics.specs.Blank.{noExecution, noEvents}
-use Rattle.predicate_semantics.specs.Trace.{entryBytes}
+use Rattle.predicate_answer.specs.declared.CompiledMmioEvent.{CompiledMmioEvent}
+use Rattle.predicate_trace.specs.declared.PredicateControlStep.{PredicateControlStep}
+use Rattle.predicate_answer.specs.declared.PredicateTransducerExecution.{PredicateTransducerExecution}
+use Rattle.predicate_answer.specs.Blank.{maxEvents}
+use Rattle.predicate_answer.specs.Blank.{noExecution, noEvents}
+use Rattle.predicate_trace.specs.Trace.{entryBytes}
 use Rattle.lane_record.specs.declared.RecordAnswer.{RecordAnswer}
 use Rattle.lane_record.specs.declared.RecordAnswer.the-variants as recorded
 use Rattle.lane_record.specs.declared.RecordOutcome.{RecordOutcome}

@@ -9,8 +9,8 @@ use lib.ListN.{length, getD, drop}
 use Rattle.little_endian.specs.Number.{AllBytes}
 use Rattle.little_endian.specs.Pack.{Fits}
 use Rattle.little_endian.specs.Lent.{over}
-use Rattle.predicate_semantics.specs.declared.CompiledMmioEvent.{CompiledMmioEvent}
-use Rattle.predicate_semantics.specs.Blank.{noEvents}
+use Rattle.predicate_answer.specs.declared.CompiledMmioEvent.{CompiledMmioEvent}
+use Rattle.predicate_answer.specs.Blank.{noEvents}
 use Rattle.lane_record.specs.declared.RecordAnswer.{RecordAnswer}
 use Rattle.lane_record.specs.declared.RecordAnswer.the-variants as recorded
 use Rattle.lane_record.specs.declared.RecordOutcome.{RecordOutcome}

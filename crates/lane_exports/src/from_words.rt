@@ -5,19 +5,19 @@ use super::words::EVENTS_AT;
 use super::words::HEADING_AT;
 use super::words::OUTCOME_WORDS;
 use super::words::REFUSED;
-use lane_record::MAX_EVENTS;
+use predicate_answer::MAX_EVENTS;
 use lane_record::RecordAnswer;
 use lane_record::RecordOutcome;
 use lane_record::RecordRefusal;
-use predicate_semantics::CompiledMmioEvent;
-use predicate_semantics::PredicateTransducerExecution;
+use predicate_answer::CompiledMmioEvent;
+use predicate_answer::PredicateTransducerExecution;
 ghost use mathlib.Core.Path.{_≡_};
 ghost use mathlib.Core.Bool.{true, _&&_, _||_};
 ghost use mathlib.Core.List.{[], _∷_};
 ghost use Prim.Native.Nat.{_+_, _≤_};
 ghost use lib.Dec.{eqb};
 ghost use lib.ListN.{drop};
-ghost use Rattle.predicate_semantics.specs.Program.{maxEvents};
+ghost use Rattle.predicate_answer.specs.Blank.{maxEvents};
 ghost use Rattle.lane_record.specs.Format.{heading, refusal, kindByte, widths, executionFrom, eventFrom, refusalFrom};
 ghost use Rattle.lane_exports.specs.Boundary as boundary;
 ghost use Rattle.lane_exports.specs.Boundary.{headingAt, eventWordsAt, outcomeSize, fit, answerFrom, eventsFrom, outcomeFrom};
@@ -131,13 +131,7 @@ fn event_from(s: &[u32; OUTCOME_WORDS], at: usize) -> CompiledMmioEvent
 fn events_from(s: &[u32; OUTCOME_WORDS]) -> [CompiledMmioEvent; MAX_EVENTS]
     ensures { λ r. ⌜ r ≡ eventsFrom maxEvents (drop eventWordsAt (now (s .entry))) ⌝ }
 {
-    let none = CompiledMmioEvent {
-        operation: 0,
-        offset: 0,
-        value: 0,
-        location: 0,
-    };
-    let mut events = [none; MAX_EVENTS];
+    let mut events = predicate_answer::no_events();
     let mut k: usize = 0;
     let mut at: usize = EVENTS_AT;
     while k < MAX_EVENTS {

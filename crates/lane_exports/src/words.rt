@@ -1,9 +1,9 @@
 // An outcome as words at the C boundary.
-use lane_record::MAX_EVENTS;
+use predicate_answer::MAX_EVENTS;
 use lane_record::RecordAnswer;
 use lane_record::RecordOutcome;
-use predicate_semantics::CompiledMmioEvent;
-use predicate_semantics::PredicateTransducerExecution;
+use predicate_answer::CompiledMmioEvent;
+use predicate_answer::PredicateTransducerExecution;
 ghost use mathlib.Core.Path.{_≡_};
 ghost use mathlib.Core.List.{[], _∷_};
 ghost use Prim.Native.Nat.{_+_, _≤_};

@@ -10,15 +10,16 @@ use lib.Dec.{leb}
 use lib.ListN.{length, take, drop, length-drop}
 use lib.Seq.{take-length}
 use Rattle.little_endian.specs.Lent.{over}
-use Rattle.predicate_semantics.specs.declared.CompiledMmioEvent.{CompiledMmioEvent}
-use Rattle.predicate_semantics.specs.declared.PredicateTransducerExecution.{PredicateTransducerExecution}
+use Rattle.predicate_answer.specs.declared.CompiledMmioEvent.{CompiledMmioEvent}
+use Rattle.predicate_answer.specs.declared.PredicateTransducerExecution.{PredicateTransducerExecution}
 use Rattle.predicate_semantics.specs.declared.Rv32SymbolLayout.{Rv32SymbolLayout}
 use Rattle.predicate_semantics.specs.State.{Result}
-use Rattle.predicate_semantics.specs.Refusal.{Tested, passed}
-use Rattle.predicate_semantics.specs.Refusal as Refusal
+use Rattle.predicate_semantics.specs.Tested.{Tested, passed}
+use Rattle.predicate_answer.specs.Refusal.{Refusal}
+use Rattle.predicate_semantics.specs.Tested as Tested
 use Rattle.predicate_semantics.specs.Lane.{LaneState, Ended}
 use Rattle.lane_memory.specs.Rows.{rowCount, cleared}
-use Rattle.lane_access.specs.Answers.{refusalOf}
+use Rattle.predicate_answer.specs.Refusal.{refusalOf}
 use Rattle.lane_record.specs.declared.RecordOutcome.{RecordOutcome}
 use Rattle.lane_record.specs.declared.RecordAnswer.the-variants as recorded
 use Rattle.lane_record.specs.declared.WriteAnswer.{WriteAnswer}
@@ -30,7 +31,7 @@ use Rattle.lane_record.proofs.Runs.{keeps-rules}
 use Rattle.riscv32imc_predicate.specs.declared.PredicateAnswer.{PredicateAnswer}
 use Rattle.riscv32imc_predicate.specs.declared.PredicateAnswer.the-variants as answer
 use Rattle.riscv32imc_predicate.specs.declared.PredicateRun.{PredicateRun}
-use Rattle.riscv32imc_predicate.specs.Tracking.{entryCount}
+use Rattle.predicate_trace.specs.Trace.{entryCount}
 use Rattle.riscv32imc_predicate.specs.Outcome.{resultBy, executionIn, eventsIn, runOver, Ran}
 use Rattle.lane_library.specs.Inputs.{symbolBytes, programImageBytes, symbolsIn, imageIn, taken}
 use Rattle.lane_library.specs.Outcome.{answerOf, outcomeOf, sizeRefusal, imageRecord, recordBy, traceBy, Gives, LentMemory, ImageRuns, LaneRuns}
@@ -74,11 +75,11 @@ module _ (c : WrittenRun) where
   outcome-by : (a : PredicateAnswer) (t : Tested Result) → resultBy a (c .run .execution) (c .run .events) (c .after .trace) ≡ t
       → record { answer = answerOf a (ended .state .steps); execution = executionIn (c .image) (c .symbols) rows entries (ended .state) t; events = eventsIn t } ≡ outcomeBy t
   outcome-by answer.Accepted (passed r) q = refl
-  outcome-by answer.Accepted (Refusal.refused g) q = let z : _≡_ {A = ℕ} 0 1 = cc in absurd (omega arith)
+  outcome-by answer.Accepted (Tested.refused g) q = let z : _≡_ {A = ℕ} 0 1 = cc in absurd (omega arith)
   outcome-by (answer.Refused y) (passed r) q = let z : _≡_ {A = ℕ} 0 1 = cc in absurd (omega arith)
-  outcome-by (answer.Refused y) (Refusal.refused g) q =
+  outcome-by (answer.Refused y) (Tested.refused g) q =
       let same : refusalOf y ≡ g = cc in
-      ap (λ (k : Refusal.Refusal). refusedOutcome (refusalIn (c .image) (c .symbols) rows entries (ended .state) k)) same
+      ap (λ (k : Refusal). refusedOutcome (refusalIn (c .image) (c .symbols) rows entries (ended .state) k)) same
 
   told : outcomeOf (c .run) ≡ outcomeBy (ended .answer)
   told = rw (c .ran .completed, c .ran .numbers, c .ran .found) (outcome-by (c .run .answer) (ended .answer) (c .ran .result))

@@ -12,19 +12,20 @@ use lib.Seq.{take-append-seam}
 use Rattle.little_endian.specs.Lent.{over}
 use Rattle.riscv32imc.specs.Constants.{maxSteps}
 use Rattle.lane_word.specs.Word.{firstInput}
-use Rattle.predicate_semantics.specs.declared.PredicateTransducerExecution.{PredicateTransducerExecution}
-use Rattle.predicate_semantics.specs.declared.PredicateControlStep.{PredicateControlStep}
+use Rattle.predicate_answer.specs.declared.PredicateTransducerExecution.{PredicateTransducerExecution}
+use Rattle.predicate_trace.specs.declared.PredicateControlStep.{PredicateControlStep}
 use Rattle.predicate_semantics.specs.declared.Rv32SymbolLayout.{Rv32SymbolLayout}
 use Rattle.predicate_semantics.specs.State.{Result}
-use Rattle.predicate_semantics.specs.Refusal.{Tested, passed}
-use Rattle.predicate_semantics.specs.Refusal as Refusal
+use Rattle.predicate_semantics.specs.Tested.{Tested, passed}
+use Rattle.predicate_semantics.specs.Tested as Tested
 use Rattle.predicate_semantics.specs.Lane.{LaneState, Ended, execution}
 use Rattle.predicate_semantics.specs.RecordRules.{Accepted}
 use Rattle.predicate_semantics.specs.Standing.{lastInput, standing, setup, standingLaneRun, standingScalarRun}
-use Rattle.predicate_semantics.specs.Blank.{noEvents}
-use Rattle.predicate_semantics.specs.Trace.{entryBytes, traceBytes, stepsAt}
+use Rattle.predicate_answer.specs.Blank.{noEvents}
+use Rattle.predicate_trace.specs.Trace.{entryBytes, traceBytes, stepsAt}
 use Rattle.predicate_semantics.proofs.RecordRules as Rules
-use Rattle.predicate_semantics.proofs.TraceLaws.{standing-completed, standing-trace-fits, trace-back}
+use Rattle.predicate_semantics.proofs.TraceFits.{standing-completed, standing-trace-fits}
+use Rattle.predicate_trace.proofs.TraceLaws.{trace-back}
 use Rattle.predicate_semantics.proofs.Guarantee.{guarantee}
 use Rattle.lane_record.specs.declared.RecordRefusal.{RecordRefusal}
 use Rattle.lane_record.specs.declared.RecordAnswer.{RecordAnswer}
@@ -121,7 +122,7 @@ module _ (image : List ℕ) (symbols : Rv32SymbolLayout) (rows entries : ℕ) wh
       let h = ended r q [] in
       let d = standing-completed image symbols rows entries in
       omega (arith, length-encode (execution (standing image symbols) (setup rows entries) s r) (r .events) (r .trace), h .events, ap length (h .trace), d .counted, d .lent, as-lent)
-  size-by (Refusal.refused f) q = omega arith
+  size-by (Tested.refused f) q = omega arith
 
   pub size-fits : length (encode (runRecord image symbols rows entries)) ≤ recordBytes entries
   size-fits = size-by (e .answer) refl
@@ -133,7 +134,7 @@ module _ (image : List ℕ) (symbols : Rv32SymbolLayout) (rows entries : ℕ) wh
       ∙ ap (λ (x : Result). some x)
       (sym (read-by (leb (numbers r q (h .lent) .«symbolic_transitions» * entryBytes) (length (h .lent))) _ _ _ (sym (h .is-done) ∙ h .reads .answer) (h .reads .outcome) (h .reads .trace)
       ∙ read-back r q (h .lent)))
-  answered (Refusal.refused f) q h i low high others = absurd (never _ _ _ _ (h .reads) (h .is-accepted))
+  answered (Tested.refused f) q h i low high others = absurd (never _ _ _ _ (h .reads) (h .is-accepted))
 
   -- the promise, of what is written of a run
   pub promise-run : (output : List ℕ) (w : WriteAnswer) (output′ : List ℕ)

@@ -10,10 +10,10 @@ use Rattle.lane_word.specs.Word.{firstInput}
 use Rattle.predicate_semantics.specs.declared.Rv32SymbolLayout.{Rv32SymbolLayout}
 use Rattle.predicate_semantics.specs.State.{Result}
 use Rattle.predicate_semantics.specs.Standing.{lastInput, standingLaneRun, standingScalarRun}
-use Rattle.predicate_semantics.specs.Blank.{noEvents}
-use Rattle.predicate_semantics.specs.Trace.{traceBytes, stepsAt}
+use Rattle.predicate_answer.specs.Blank.{noEvents}
+use Rattle.predicate_trace.specs.Trace.{traceBytes, stepsAt}
 use Rattle.lane_memory.specs.Rows.{rowCount, cleared}
-use Rattle.lane_access.specs.Answers.{refusalOf}
+use Rattle.predicate_answer.specs.Refusal.{refusalOf}
 use Rattle.lane_record.specs.declared.RecordRefusal.{RecordRefusal}
 use Rattle.lane_record.specs.declared.RecordAnswer.{RecordAnswer}
 use Rattle.lane_record.specs.declared.RecordAnswer.the-variants as recorded
@@ -27,7 +27,7 @@ use Rattle.lane_record.specs.Runs.{recordIn}
 use Rattle.riscv32imc_predicate.specs.declared.PredicateAnswer.{PredicateAnswer}
 use Rattle.riscv32imc_predicate.specs.declared.PredicateAnswer.the-variants as answer
 use Rattle.riscv32imc_predicate.specs.declared.PredicateRun.{PredicateRun}
-use Rattle.riscv32imc_predicate.specs.Tracking.{entryCount}
+use Rattle.predicate_trace.specs.Trace.{entryCount}
 use Rattle.riscv32imc_predicate.specs.Outcome.{runOver}
 use Rattle.lane_library.specs.Inputs.{symbolsIn, imageIn, taken}
 

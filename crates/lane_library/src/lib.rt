@@ -1,20 +1,15 @@
 // The lane run from the program's input bytes to the record's bytes, over lent memory.
-use lane_access::Role;
-use lane_access::Rv32Error;
-use lane_record::MAX_EVENTS;
+use predicate_answer::MAX_EVENTS;
 use lane_record::RecordAnswer;
 use lane_record::RecordOutcome;
 use lane_record::RecordRefusal;
 use lane_record::WriteAnswer;
-use predicate_semantics::CompiledMmioEvent;
-use predicate_semantics::PredicateTransducerExecution;
 use predicate_semantics::Rv32SymbolLayout;
 use riscv32imc_predicate::PredicateAnswer;
 use riscv32imc_predicate::PredicateRun;
 ghost use mathlib.Core.Path.{_≡_};
 ghost use Rattle.lane_record.specs.Format.{refused};
 ghost use Rattle.lane_record.specs.Answers.{refusedOutcome, writeSaid};
-ghost use Rattle.lane_access.specs.Answers.{roleOf, refusalOf};
 ghost use Rattle.lane_library.specs.Inputs.{symbolsIn, taken};
 ghost use Rattle.lane_library.specs.Outcome.{answerOf, outcomeOf, sizeRefusal, count, Gives, lent, ImageRuns, LaneRuns};
 
@@ -27,73 +22,14 @@ const IMAGE_BYTES: usize = 32_768;
 // The longest input that is taken.
 pub const INPUT_BYTES: usize = SYMBOL_BYTES + IMAGE_BYTES;
 
-fn role_number(role: Role) -> u8
-    ensures { λ r. ⌜ r ≡ roleOf role ⌝ }
-{
-    match role {
-        Role::Fetch => 1,
-        Role::JumpTarget => 2,
-        Role::LoadAddress => 3,
-        Role::StoreAddress => 4,
-        Role::Branch => 5,
-        Role::ReturnValue => 6,
-        Role::EventCount => 7,
-        Role::EventOperation => 8,
-        Role::EventOffset => 9,
-        Role::EventValue => 10,
-    }
-}
-
-fn role_of(error: Rv32Error) -> u8
-    ensures { λ r. ⌜ r ≡ refusalOf error .role ⌝ }
-{
-    match error {
-        Rv32Error::ImageSize => 0,
-        Rv32Error::SymbolOutside => 0,
-        Rv32Error::StepLimit => 0,
-        Rv32Error::BelowMemory => 0,
-        Rv32Error::PastMemory => 0,
-        Rv32Error::Unknown(role) => role_number(role),
-        Rv32Error::NotUniform(role) => role_number(role),
-        Rv32Error::Halfword => 0,
-        Rv32Error::Word => 0,
-        Rv32Error::ZeroTarget => 0,
-        Rv32Error::StoreBelowImageEnd => 0,
-        Rv32Error::EventCount => 0,
-        Rv32Error::NoRow => 0,
-        Rv32Error::NoTraceEntry => 0,
-    }
-}
-
-fn number_of(error: Rv32Error) -> u8
-    ensures { λ r. ⌜ r ≡ refusalOf error .number ⌝ }
-{
-    match error {
-        Rv32Error::ImageSize => 1,
-        Rv32Error::SymbolOutside => 2,
-        Rv32Error::StepLimit => 3,
-        Rv32Error::BelowMemory => 4,
-        Rv32Error::PastMemory => 5,
-        Rv32Error::Unknown(_) => 6,
-        Rv32Error::NotUniform(_) => 7,
-        Rv32Error::Halfword => 8,
-        Rv32Error::Word => 9,
-        Rv32Error::ZeroTarget => 10,
-        Rv32Error::StoreBelowImageEnd => 11,
-        Rv32Error::EventCount => 12,
-        Rv32Error::NoRow => 13,
-        Rv32Error::NoTraceEntry => 14,
-    }
-}
-
 fn answer_of(answer: PredicateAnswer, steps: u32) -> RecordAnswer
     ensures { λ r. ⌜ r ≡ answerOf answer steps ⌝ }
 {
     match answer {
         PredicateAnswer::Accepted => RecordAnswer::Accepted,
         PredicateAnswer::Refused(error) => {
-            let number = number_of(error);
-            let role = role_of(error);
+            let number = error.number();
+            let role = error.role();
             let refusal = RecordRefusal {
                 number: number,
                 role: role,
@@ -123,31 +59,15 @@ fn outcome_of(run: PredicateRun) -> RecordOutcome
 pub fn refused_outcome(number: u8) -> RecordOutcome
     ensures { λ r. ⌜ r ≡ refusedOutcome (record { number = number; role = 0; steps = 0 }) ⌝ }
 {
-    let none = CompiledMmioEvent {
-        operation: 0,
-        offset: 0,
-        value: 0,
-        location: 0,
-    };
-    let execution = PredicateTransducerExecution {
-        first_input: 0,
-        lane_count: 0,
-        return_value: 0,
-        symbolic_transitions: 0,
-        lane_value_operations: 0,
-        sparse_memory_bytes: 0,
-        event_count: 0,
-    };
     let refusal = RecordRefusal {
         number: number,
         role: 0,
         steps: 0,
     };
-    let events = [none; MAX_EVENTS];
     RecordOutcome {
         answer: RecordAnswer::Refused(refusal),
-        execution: execution,
-        events: events,
+        execution: predicate_answer::no_execution(),
+        events: predicate_answer::no_events(),
     }
 }
 

@@ -10,14 +10,14 @@ use lib.Dec.{leb}
 use lib.ListN.{length}
 use Rattle.little_endian.specs.Lent.{over}
 use Rattle.predicate_semantics.specs.declared.Rv32SymbolLayout.{Rv32SymbolLayout}
-use Rattle.predicate_semantics.specs.Trace.{entryBytes}
+use Rattle.predicate_trace.specs.Trace.{entryBytes}
 use Rattle.lane_memory.specs.Rows.{rowBytes, rowCount}
 use Rattle.lane_record.specs.declared.WriteAnswer.{WriteAnswer}
 use Rattle.lane_record.specs.declared.WriteAnswer.the-variants.{Written}
 use Rattle.lane_record.specs.Format.{Record, encode}
 use Rattle.lane_record.specs.Answers.{Said, wrote, refuses, writeSaid}
 use Rattle.lane_record.specs.Answers as Answers
-use Rattle.riscv32imc_predicate.specs.Tracking.{entryCount}
+use Rattle.predicate_trace.specs.Trace.{entryCount}
 use Rattle.lane_library.specs.Inputs.{programRows, programEntries, symbolsIn, imageIn, taken}
 use Rattle.lane_library.specs.Outcome.{count, inputRecord, recordBytes, Promise, LentMemory, LaneRuns}
 use Rattle.lane_library.proofs.Promise.{size-fits}

@@ -4,7 +4,7 @@ use mathlib.Core.List.{List}
 use Prim.Native.Nat.{ℕ, _*_, _≤_}
 use lib.ListN.{length, replicate}
 use Rattle.little_endian.specs.Lent.{over}
-use Rattle.predicate_semantics.specs.Trace.{entryBytes}
+use Rattle.predicate_trace.specs.Trace.{entryBytes}
 use Rattle.lane_memory.specs.Rows.{rowBytes}
 use Rattle.lane_record.specs.Format.{Record, encode}
 use Rattle.lane_record.specs.declared.WriteAnswer.the-variants.{Written}

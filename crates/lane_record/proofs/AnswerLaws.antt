@@ -12,13 +12,14 @@ use borrow.Author.Tests.{eq-eqb, ne-eqb, leb-true, le-leb, lt-leb}
 use Rattle.little_endian.specs.Number.{AllBytes}
 use Rattle.little_endian.specs.Lent.{over}
 use Rattle.little_endian.proofs.SetLaws.{sets-append, sets-over}
-use Rattle.predicate_semantics.specs.declared.PredicateControlStep.{PredicateControlStep}
-use Rattle.predicate_semantics.specs.declared.CompiledMmioEvent.{CompiledMmioEvent}
-use Rattle.predicate_semantics.specs.declared.PredicateTransducerExecution.{PredicateTransducerExecution}
-use Rattle.predicate_semantics.specs.Blank.{noEvents}
-use Rattle.predicate_semantics.specs.Program.{stop, maxEvents}
-use Rattle.predicate_semantics.specs.Trace.{entryBytes, stepValues, traceBytes, stepsAt}
-use Rattle.predicate_semantics.proofs.TraceLaws.{length-trace}
+use Rattle.predicate_trace.specs.declared.PredicateControlStep.{PredicateControlStep}
+use Rattle.predicate_answer.specs.declared.CompiledMmioEvent.{CompiledMmioEvent}
+use Rattle.predicate_answer.specs.declared.PredicateTransducerExecution.{PredicateTransducerExecution}
+use Rattle.predicate_answer.specs.Blank.{noEvents}
+use Rattle.predicate_semantics.specs.Program.{stop}
+use Rattle.predicate_answer.specs.Blank.{maxEvents}
+use Rattle.predicate_trace.specs.Trace.{entryBytes, stepValues, traceBytes, stepsAt}
+use Rattle.predicate_trace.proofs.TraceLaws.{length-trace}
 use Rattle.lane_record.specs.declared.RecordRefusal.{RecordRefusal}
 use Rattle.lane_record.specs.declared.RecordAnswer.the-variants as answer
 use Rattle.lane_record.specs.declared.ReadAnswer.the-variants as read

@@ -15,12 +15,12 @@ use Rattle.little_endian.specs.Number.{AllBytes}
 use Rattle.little_endian.specs.Pack.{unpack, unpacks, Fits, AllFit}
 use Rattle.little_endian.proofs.NumberLaws.{below-drop}
 use Rattle.little_endian.proofs.PackLaws.{Led, unpack-pack, pack-unpack, unpack-fits, length-packs, past-row, unpacks-packs, packs-unpacks, unpacks-fit, length-unpacks}
-use Rattle.predicate_semantics.specs.declared.PredicateControlStep.{PredicateControlStep}
-use Rattle.predicate_semantics.specs.declared.CompiledMmioEvent.{CompiledMmioEvent}
-use Rattle.predicate_semantics.specs.declared.PredicateTransducerExecution.{PredicateTransducerExecution}
+use Rattle.predicate_trace.specs.declared.PredicateControlStep.{PredicateControlStep}
+use Rattle.predicate_answer.specs.declared.CompiledMmioEvent.{CompiledMmioEvent}
+use Rattle.predicate_answer.specs.declared.PredicateTransducerExecution.{PredicateTransducerExecution}
 use Rattle.predicate_semantics.specs.Program.{stop}
-use Rattle.predicate_semantics.specs.Trace.{entryBytes, stepWidths, stepValues, stepOf, stepsAt}
-use Rattle.predicate_semantics.proofs.TraceLaws.{steps-values}
+use Rattle.predicate_trace.specs.Trace.{entryBytes, stepWidths, stepValues, stepOf, stepsAt}
+use Rattle.predicate_trace.proofs.TraceLaws.{steps-values}
 use Rattle.lane_record.specs.declared.RecordRefusal.{RecordRefusal}
 use Rattle.lane_record.specs.Format.{Kind, heading, event, step, refusal, kindByte, widths, size, item, items, Record, accepted, refused, executionValues, executionFrom, eventValues, eventFrom, refusalValues, refusalFrom, encode, FitsRecord}
 use Rattle.lane_record.specs.Rules.{executionValid, linked, refusalValid, valid}

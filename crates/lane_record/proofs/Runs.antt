@@ -14,21 +14,23 @@ use Rattle.little_endian.specs.Lent.{over}
 use Rattle.riscv32imc.specs.Constants.{maxSteps}
 use Rattle.lane_word.specs.Word.{inputs}
 use Rattle.lane_word.specs.Word as Word
-use Rattle.predicate_semantics.specs.declared.CompiledMmioEvent.{CompiledMmioEvent}
-use Rattle.predicate_semantics.specs.declared.PredicateControlStep.{PredicateControlStep}
+use Rattle.predicate_answer.specs.declared.CompiledMmioEvent.{CompiledMmioEvent}
+use Rattle.predicate_trace.specs.declared.PredicateControlStep.{PredicateControlStep}
 use Rattle.predicate_semantics.specs.declared.Rv32SymbolLayout.{Rv32SymbolLayout}
-use Rattle.predicate_semantics.specs.Program.{Program, maxEvents}
+use Rattle.predicate_semantics.specs.Program.{Program}
+use Rattle.predicate_answer.specs.Blank.{maxEvents}
 use Rattle.predicate_semantics.specs.State.{Result}
-use Rattle.predicate_semantics.specs.Refusal.{Tested, passed}
-use Rattle.predicate_semantics.specs.Refusal as Refusal
+use Rattle.predicate_semantics.specs.Tested.{Tested, passed}
+use Rattle.predicate_answer.specs.Refusal.{Refusal}
+use Rattle.predicate_semantics.specs.Tested as Tested
 use Rattle.predicate_semantics.specs.Lane.{LaneState, Setup, Ended, laneCount, laneOperations, writtenBytes, execution}
 use Rattle.predicate_semantics.specs.RecordRules.{Chain, Completed, Accepted, proper}
 use Rattle.predicate_semantics.specs.Standing.{standing, setup, standingLaneRun}
-use Rattle.predicate_semantics.specs.Blank.{noEvents}
-use Rattle.predicate_semantics.specs.Trace.{traceBytes}
+use Rattle.predicate_answer.specs.Blank.{noEvents}
+use Rattle.predicate_trace.specs.Trace.{traceBytes}
 use Rattle.predicate_semantics.proofs.RecordRules.{refused-proper, takes-step}
 use Rattle.predicate_semantics.proofs.RecordRules as Rules
-use Rattle.predicate_semantics.proofs.TraceLaws.{standing-completed, standing-trace-fits}
+use Rattle.predicate_semantics.proofs.TraceFits.{standing-completed, standing-trace-fits}
 use Rattle.lane_record.specs.Format.{Record, accepted, refused}
 use Rattle.lane_record.specs.Rules.{minWrittenBytes, maxWrittenBytes, link, begins, linked, refusalValid, valid}
 use Rattle.lane_record.specs.Decode.{ruled}
@@ -108,7 +110,7 @@ module _ (image : List ℕ) (symbols : Rv32SymbolLayout) (rows entries : ℕ) wh
         ∙ ap (λ (x : List CompiledMmioEvent). some (accepted (execution p l s r) x (s .trace))) same-events
         ∙ ap (λ (x : List PredicateControlStep). some (accepted (execution p l s r) (r .events) x)) (ended .trace)
 
-  kept-refused : (f : Refusal.Refusal) → e .answer ≡ Refusal.refused f → refusalValid (refusalIn image symbols rows entries s f) ≡ true
+  kept-refused : (f : Refusal) → e .answer ≡ Tested.refused f → refusalValid (refusalIn image symbols rows entries s f) ≡ true
   unfolding standingLaneRun proper
   kept-refused f q =
       yes {t = proper f} (holds (proper f) (refused-proper p l maxSteps f q)) (le-leb (s .steps) maxSteps (omega (arith, done .bound)))
@@ -116,7 +118,7 @@ module _ (image : List ℕ) (symbols : Rv32SymbolLayout) (rows entries : ℕ) wh
   kept : (a : Tested Result) → e .answer ≡ a → (t : List ℕ)
       → given (outcomeIn image symbols rows entries s a) (over (traceBytes (s .trace)) t) ≡ some (recordIn image symbols rows entries s a)
   kept (passed r) q t = kept-accepted r q t
-  kept (Refusal.refused f) q t =
+  kept (Tested.refused f) q t =
       ap (λ (w : Bool). ruled w (refused (refusalIn image symbols rows entries s f))) (kept-refused f q)
 
   pub keeps-rules : KeepsRules image symbols rows entries

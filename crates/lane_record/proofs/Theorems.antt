@@ -13,12 +13,12 @@ use Rattle.little_endian.specs.Number.{AllBytes}
 use Rattle.little_endian.specs.Pack.{AllFit}
 use Rattle.little_endian.specs.Lent.{over}
 use Rattle.little_endian.proofs.PackLaws.{Led, packs-unpacks}
-use Rattle.predicate_semantics.specs.declared.PredicateControlStep.{PredicateControlStep}
-use Rattle.predicate_semantics.specs.declared.CompiledMmioEvent.{CompiledMmioEvent}
-use Rattle.predicate_semantics.specs.declared.PredicateTransducerExecution.{PredicateTransducerExecution}
-use Rattle.predicate_semantics.specs.Blank.{noEvents}
-use Rattle.predicate_semantics.specs.Trace.{entryBytes, stepWidths, stepValues, traceBytes, stepsAt}
-use Rattle.predicate_semantics.proofs.TraceLaws.{length-trace, trace-back}
+use Rattle.predicate_trace.specs.declared.PredicateControlStep.{PredicateControlStep}
+use Rattle.predicate_answer.specs.declared.CompiledMmioEvent.{CompiledMmioEvent}
+use Rattle.predicate_answer.specs.declared.PredicateTransducerExecution.{PredicateTransducerExecution}
+use Rattle.predicate_answer.specs.Blank.{noEvents}
+use Rattle.predicate_trace.specs.Trace.{entryBytes, stepWidths, stepValues, traceBytes, stepsAt}
+use Rattle.predicate_trace.proofs.TraceLaws.{length-trace, trace-back}
 use Rattle.lane_record.specs.declared.RecordRefusal.{RecordRefusal}
 use Rattle.lane_record.specs.declared.RecordAnswer.{RecordAnswer}
 use Rattle.lane_record.specs.declared.RecordAnswer.the-variants as answer

@@ -3,10 +3,10 @@ use mathlib.Core.List.{List, [], _∷_, _++_, map}
 use Prim.Native.Nat.{ℕ, _+_}
 use lib.ListN.{getD}
 use Rattle.little_endian.specs.Pack.{total, pack, packs, Fits, AllFit}
-use Rattle.predicate_semantics.specs.declared.PredicateControlStep.{PredicateControlStep}
-use Rattle.predicate_semantics.specs.declared.CompiledMmioEvent.{CompiledMmioEvent}
-use Rattle.predicate_semantics.specs.declared.PredicateTransducerExecution.{PredicateTransducerExecution}
-use Rattle.predicate_semantics.specs.Trace.{stepWidths, stepValues}
+use Rattle.predicate_trace.specs.declared.PredicateControlStep.{PredicateControlStep}
+use Rattle.predicate_answer.specs.declared.CompiledMmioEvent.{CompiledMmioEvent}
+use Rattle.predicate_answer.specs.declared.PredicateTransducerExecution.{PredicateTransducerExecution}
+use Rattle.predicate_trace.specs.Trace.{stepWidths, stepValues}
 use Rattle.lane_record.specs.declared.RecordRefusal.{RecordRefusal}
 
 pub data Kind : Type 0 where

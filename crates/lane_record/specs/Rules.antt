@@ -6,9 +6,10 @@ use lib.Dec.{eqb, leb}
 use lib.ListN.{length}
 use Rattle.riscv32imc.specs.Constants.{maxMemoryBytes, maxSteps}
 use Rattle.lane_word.specs.Word.{firstInput, lanes}
-use Rattle.predicate_semantics.specs.declared.PredicateControlStep.{PredicateControlStep}
-use Rattle.predicate_semantics.specs.declared.PredicateTransducerExecution.{PredicateTransducerExecution}
-use Rattle.predicate_semantics.specs.Program.{stop, maxEvents}
+use Rattle.predicate_trace.specs.declared.PredicateControlStep.{PredicateControlStep}
+use Rattle.predicate_answer.specs.declared.PredicateTransducerExecution.{PredicateTransducerExecution}
+use Rattle.predicate_semantics.specs.Program.{stop}
+use Rattle.predicate_answer.specs.Blank.{maxEvents}
 use Rattle.lane_record.specs.declared.RecordRefusal.{RecordRefusal}
 use Rattle.lane_record.specs.Format.{Record, accepted, refused}
 

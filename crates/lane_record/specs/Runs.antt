@@ -6,11 +6,12 @@ use Prim.Native.Nat.{ℕ}
 use Rattle.little_endian.specs.Lent.{over}
 use Rattle.predicate_semantics.specs.declared.Rv32SymbolLayout.{Rv32SymbolLayout}
 use Rattle.predicate_semantics.specs.State.{Result}
-use Rattle.predicate_semantics.specs.Refusal.{Tested, passed}
-use Rattle.predicate_semantics.specs.Refusal as Refusal
+use Rattle.predicate_semantics.specs.Tested.{Tested, passed}
+use Rattle.predicate_answer.specs.Refusal.{Refusal}
+use Rattle.predicate_semantics.specs.Tested as Tested
 use Rattle.predicate_semantics.specs.Lane.{LaneState, Ended, execution}
 use Rattle.predicate_semantics.specs.Standing.{standing, setup, standingLaneRun}
-use Rattle.predicate_semantics.specs.Trace.{traceBytes}
+use Rattle.predicate_trace.specs.Trace.{traceBytes}
 use Rattle.lane_record.specs.declared.RecordRefusal.{RecordRefusal}
 use Rattle.lane_record.specs.declared.RecordOutcome.{RecordOutcome}
 use Rattle.lane_record.specs.Format.{Record, accepted, refused}
@@ -18,18 +19,18 @@ use Rattle.lane_record.specs.Answers.{refusedOutcome, acceptedOutcome, g
 
 module _ (image : List ℕ) (symbols : Rv32SymbolLayout) (rows entries : ℕ) where
   -- a refusal with the steps that were completed before it
-  abbrev pub refusalIn : LaneState → Refusal.Refusal → RecordRefusal
+  abbrev pub refusalIn : LaneState → Refusal → RecordRefusal
   refusalIn s q = record { number = q .number; role = q .role; steps = s .steps }
 
   -- the record of a run that ended in a state with an answer
   abbrev pub recordIn : LaneState → Tested Result → Record
   recordIn s (passed r) = accepted (execution (standing image symbols) (setup rows entries) s r) (r .events) (r .trace)
-  recordIn s (Refusal.refused q) = refused (refusalIn s q)
+  recordIn s (Tested.refused q) = refused (refusalIn s q)
 
   -- what the writer is given of it
   abbrev pub outcomeIn : LaneState → Tested Result → RecordOutcome
   outcomeIn s (passed r) = acceptedOutcome (execution (standing image symbols) (setup rows entries) s r) (r .events)
-  outcomeIn s (Refusal.refused q) = refusedOutcome (refusalIn s q)
+  outcomeIn s (Tested.refused q) = refusedOutcome (refusalIn s q)
 
   -- what a lane run gives the writer, with the trace that it leaves, is its record: the writer never answers 15
   abbrev pub KeepsRules : Type 0

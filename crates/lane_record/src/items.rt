@@ -6,15 +6,16 @@ use little_endian::get_u32;
 use little_endian::put_u8;
 use little_endian::put_u16;
 use little_endian::put_u32;
-use predicate_semantics::CompiledMmioEvent;
-use predicate_semantics::PredicateControlStep;
-use predicate_semantics::PredicateTransducerExecution;
+use predicate_answer::CompiledMmioEvent;
+use predicate_trace::ENTRY_BYTES;
+use predicate_trace::PredicateControlStep;
+use predicate_answer::PredicateTransducerExecution;
 ghost use mathlib.Core.Path.{_≡_};
 ghost use Prim.Native.Nat.{_+_, _≤_};
 ghost use lib.ListN.{length, drop};
 ghost use lib.Seq.{sets};
 ghost use Rattle.little_endian.specs.Pack.{total, unpack, Fits};
-ghost use Rattle.predicate_semantics.specs.Trace.{entryBytes, stepWidths, stepOf};
+ghost use Rattle.predicate_trace.specs.Trace.{entryBytes, stepWidths, stepOf};
 ghost use Rattle.lane_record.specs.Format.{heading, event, refusal, widths, size, item, executionValues, eventValues, eventFrom, refusalValues};
 ghost use Rattle.lane_record.specs.Decode.{executionAt, refusalAt};
 
@@ -31,8 +32,6 @@ pub const REFUSAL: u8 = 0x7F;
 pub const HEADING_BYTES: usize = 1 + 1 + 2 + 4 + 4 + 4 + 4 + 1;
 
 pub const EVENT_BYTES: usize = 1 + 4 + 4 + 4 + 4;
-
-pub const ENTRY_BYTES: usize = predicate_semantics::ENTRY_BYTES;
 
 pub const STEP_BYTES: usize = 1 + ENTRY_BYTES;
 

@@ -4,7 +4,6 @@ mod reader;
 mod rules;
 mod writer;
 
-pub use items::ENTRY_BYTES;
 pub use items::EVENT;
 pub use items::EVENT_BYTES;
 pub use items::HEADING;
@@ -12,13 +11,11 @@ pub use items::HEADING_BYTES;
 pub use items::REFUSAL_BYTES;
 pub use items::STEP;
 pub use items::STEP_BYTES;
-use predicate_semantics::CompiledMmioEvent;
-use predicate_semantics::PredicateTransducerExecution;
+use predicate_answer::CompiledMmioEvent;
+use predicate_answer::MAX_EVENTS;
+use predicate_answer::PredicateTransducerExecution;
 ghost use Rattle.lane_record.specs.Decode.{decodeRecord};
 ghost use Rattle.lane_record.specs.Answers.{Reads, Exact, Writes, given};
-
-// The most events of a record.
-pub const MAX_EVENTS: usize = predicate_semantics::MAX_EVENTS;
 
 // A run's refusal as an item 7F holds it.
 pub struct RecordRefusal {

@@ -1,11 +1,11 @@
 // Reading: every rule is tested before anything is written.
-use super::MAX_EVENTS;
+use predicate_answer::MAX_EVENTS;
 use super::ReadAnswer;
 use super::RecordAnswer;
 use super::RecordOutcome;
 use super::RecordReading;
 use super::RecordRefusal;
-use super::items::ENTRY_BYTES;
+use predicate_trace::ENTRY_BYTES;
 use super::items::EVENT;
 use super::items::EVENT_BYTES;
 use super::items::HEADING;
@@ -21,19 +21,19 @@ use super::rules::both_hold;
 use super::rules::execution_valid;
 use super::rules::refusal_valid;
 use super::rules::steps_linked;
-use predicate_semantics::CompiledMmioEvent;
-use predicate_semantics::PredicateTransducerExecution;
-use predicate_semantics::put_entry;
+use predicate_answer::CompiledMmioEvent;
+use predicate_answer::PredicateTransducerExecution;
+use predicate_trace::put_entry;
 ghost use mathlib.Core.Path.{_≡_};
 ghost use mathlib.Core.Bool.{cond, _&&_};
 ghost use mathlib.Core.List.{List};
 ghost use Prim.Native.Nat.{ℕ, _+_, _*_, _≤_, _<_};
 ghost use lib.ListN.{length, drop};
 ghost use lib.Seq.{sets};
-ghost use Rattle.predicate_semantics.specs.Blank.{noEvents};
-ghost use Rattle.predicate_semantics.specs.Trace.{entryBytes, traceBytes, stepsAt};
+ghost use Rattle.predicate_answer.specs.Blank.{noEvents};
+ghost use Rattle.predicate_trace.specs.Trace.{entryBytes, traceBytes, stepsAt};
 ghost use Rattle.lane_record.specs.Format.{heading, event, step, size};
-ghost use Rattle.predicate_semantics.specs.Program.{maxEvents};
+ghost use Rattle.predicate_answer.specs.Blank.{maxEvents};
 ghost use Rattle.lane_record.specs.Rules.{valid};
 ghost use Rattle.lane_record.specs.Decode.{executionAt, eventsAt, acceptedAt, acceptedForm, acceptedIn, refusedIn, kindsAre};
 ghost use Rattle.lane_record.specs.Answers.{refusedReading, nothingRead, Reads};
@@ -81,13 +81,7 @@ fn take_events(s: &[u8], n: usize) -> [CompiledMmioEvent; MAX_EVENTS]
     requires { ⌜ (n ≤ maxEvents) × (size heading + n * size event ≤ length (now s)) ⌝ }
     ensures { λ r. ⌜ r ≡ sets noEvents 0 (eventsAt n (drop (size heading) (now (s .entry)))) ⌝ }
 {
-    let none = CompiledMmioEvent {
-        operation: 0,
-        offset: 0,
-        value: 0,
-        location: 0,
-    };
-    let mut events = [none; MAX_EVENTS];
+    let mut events = predicate_answer::no_events();
     let mut k = 0;
     let mut at = HEADING_BYTES;
     while k < n {
@@ -118,26 +112,10 @@ fn take_steps(trace: &mut [u8], s: &[u8], start: usize, n: usize)
 fn refused_reading(answer: ReadAnswer, f: RecordRefusal) -> RecordReading
     ensures { λ r. ⌜ r ≡ refusedReading answer f ⌝ }
 {
-    let none = CompiledMmioEvent {
-        operation: 0,
-        offset: 0,
-        value: 0,
-        location: 0,
-    };
-    let execution = PredicateTransducerExecution {
-        first_input: 0,
-        lane_count: 0,
-        return_value: 0,
-        symbolic_transitions: 0,
-        lane_value_operations: 0,
-        sparse_memory_bytes: 0,
-        event_count: 0,
-    };
-    let events = [none; MAX_EVENTS];
     let outcome = RecordOutcome {
         answer: RecordAnswer::Refused(f),
-        execution: execution,
-        events: events,
+        execution: predicate_answer::no_execution(),
+        events: predicate_answer::no_events(),
     };
     RecordReading {
         answer: answer,

@@ -1,18 +1,18 @@
 // The record's rules, as tests.
-use super::MAX_EVENTS;
+use predicate_answer::MAX_EVENTS;
 use super::RecordRefusal;
-use super::items::ENTRY_BYTES;
+use predicate_trace::ENTRY_BYTES;
 use super::items::step_at;
 use lane_word::LaneWord;
-use predicate_semantics::PredicateControlStep;
-use predicate_semantics::PredicateTransducerExecution;
+use predicate_trace::PredicateControlStep;
+use predicate_answer::PredicateTransducerExecution;
 use predicate_semantics::STOP;
 ghost use mathlib.Core.Path.{_≡_};
 ghost use mathlib.Core.Bool.{cond, _&&_, _||_};
 ghost use Prim.Native.Nat.{_+_, _*_, _≤_};
 ghost use lib.ListN.{length, drop};
 ghost use Rattle.predicate_semantics.specs.Program.{stop};
-ghost use Rattle.predicate_semantics.specs.Trace.{entryBytes, stepsAt};
+ghost use Rattle.predicate_trace.specs.Trace.{entryBytes, stepsAt};
 ghost use Rattle.lane_record.specs.Rules as rules;
 
 // The most steps of a run.

@@ -5,7 +5,8 @@ use mathlib.Core.Option.{Option, none, some}
 use Prim.Native.Nat.{ℕ}
 use lib.Dec.{T}
 use Rattle.predicate_semantics.specs.Choice.{choose}
-use Rattle.predicate_semantics.specs.Refusal.{Refusal, Tested, passed, refused, refuse, require, found, _>>=_}
+use Rattle.predicate_semantics.specs.Tested.{Tested, passed, refused, refuse, require, found, _>>=_}
+use Rattle.predicate_answer.specs.Refusal.{Refusal}
 use Rattle.predicate_semantics.specs.RecordRules.{proper}
 
 pub data Always {A : Type 0} (P : A → Type 0) : Tested A → Type 0 where

@@ -11,10 +11,10 @@ use Rattle.riscv32imc.specs.Constants.{imageBase}
 use Rattle.riscv_decode.specs.declared.Fetched.{Fetched}
 use Rattle.riscv_decode.specs.declared.Operation.the-variants.{Jal}
 use Rattle.lane_word.specs.Word.{constant}
-use Rattle.predicate_semantics.specs.declared.PredicateControlStep.{PredicateControlStep}
+use Rattle.predicate_trace.specs.declared.PredicateControlStep.{PredicateControlStep}
 use Rattle.predicate_semantics.specs.Program.{Program, sized, inMemory, symbolsPlaced}
 use Rattle.predicate_semantics.specs.State.{sets, assign, advanced, apply}
-use Rattle.predicate_semantics.specs.Refusal.{passed, refuse, require, _>>=_}
+use Rattle.predicate_semantics.specs.Tested.{passed, refuse, require, _>>=_}
 use Rattle.predicate_semantics.specs.Lane.{LaneState, Setup, Ended, on, laneCount, attempt, step, run, startTests, begin, start, laneRun}
 use Rattle.predicate_semantics.specs.Standing.{standing, setup, standingLaneRun}
 use Rattle.predicate_semantics.specs.Cases.{symbols, refuses, meets, holds}

@@ -3,7 +3,7 @@ use mathlib.Core.Path.{_≡_, refl}
 use mathlib.Core.Bool.{true}
 use lib.Bits.{xor-self}
 use Rattle.riscv32imc.specs.Constants.{imageBase}
-use Rattle.predicate_semantics.specs.Refusal.{passed}
+use Rattle.predicate_semantics.specs.Tested.{passed}
 use Rattle.predicate_semantics.specs.Lane as Lane
 use Rattle.predicate_semantics.specs.Standing as Standing
 use Rattle.predicate_semantics.specs.Cases as Cases

@@ -10,7 +10,7 @@ use Rattle.predicate_action.specs.Meaning as Meaning
 use Rattle.predicate_semantics.specs.Program as Program
 use Rattle.predicate_semantics.specs.State as State
 use Rattle.predicate_semantics.specs.Memory as Memory
-use Rattle.predicate_semantics.specs.Refusal as Refusal
+use Rattle.predicate_semantics.specs.Tested as Tested
 use Rattle.predicate_semantics.specs.Lane as Lane
 use Rattle.predicate_semantics.specs.Scalar as Scalar
 use Rattle.predicate_semantics.specs.Standing as Standing
@@ -28,7 +28,7 @@ unfolding Word.unknown Word.constant Word.domain Word.zip Word.unary Word.binary
 words = tt
 
 unfoldable pub running : Unit {0}
-unfolding Choice.choose Meaning.meaning Program.initial Program.sized Program.inMemory Program.symbolsPlaced State.fill State.atStart State.assign State.recorded State.advanced State.apply Memory.byteAt Memory.laneBytes Memory.put Memory.read Memory.write Refusal._>>=_ Refusal.refuse Refusal.require Refusal.found Lane.inside Lane.on Lane.laneCount Lane.memoryOf Lane.agreed Lane.startTests Lane.roomFor Lane.decodeWord Lane.expandHalfword Lane.access Lane.accessAgreed Lane.fetchFour Lane.fetch Lane.eventAt Lane.reg Lane.execute Lane.attempt Lane.step Lane.events Lane.finishEvents Lane.finish Lane.run Lane.begin Lane.start Lane.laneRun
+unfolding Choice.choose Meaning.meaning Program.initial Program.sized Program.inMemory Program.symbolsPlaced State.fill State.atStart State.assign State.recorded State.advanced State.apply Memory.byteAt Memory.laneBytes Memory.put Memory.read Memory.write Tested._>>=_ Tested.refuse Tested.require Tested.found Lane.inside Lane.on Lane.laneCount Lane.memoryOf Lane.agreed Lane.startTests Lane.roomFor Lane.decodeWord Lane.expandHalfword Lane.access Lane.accessAgreed Lane.fetchFour Lane.fetch Lane.eventAt Lane.reg Lane.execute Lane.attempt Lane.step Lane.events Lane.finishEvents Lane.finish Lane.run Lane.begin Lane.start Lane.laneRun
 running = tt
 
 unfoldable pub scalar : Unit {0}

@@ -11,7 +11,7 @@ use Rattle.lane_word.specs.Word.{firstInput, inputs}
 use Rattle.lane_word.specs.Word as Word
 use Rattle.predicate_semantics.specs.Program.{Program, stop}
 use Rattle.predicate_semantics.specs.Choice.{choose}
-use Rattle.predicate_semantics.specs.Refusal.{Tested, passed, refused, ifPassed}
+use Rattle.predicate_semantics.specs.Tested.{Tested, passed, refused, ifPassed}
 use Rattle.predicate_semantics.specs.Lane.{LaneState, Setup, on, laneCount, memoryOf, step, run, after, begin, start, reached, laneRun}
 use Rattle.predicate_semantics.specs.Scalar.{ScalarState}
 use Rattle.predicate_semantics.specs.Standing.{setup, standing, standingLaneRun, standingScalarRun}

@@ -14,7 +14,8 @@ use Rattle.predicate_semantics.specs.Choice.{choose}
 use Rattle.predicate_semantics.specs.Program.{Program, stop}
 use Rattle.predicate_semantics.specs.State.{State, Effect, goes, sets, stores, advanced, apply}
 use Rattle.predicate_semantics.specs.Memory.{Written, put, write}
-use Rattle.predicate_semantics.specs.Refusal.{Refusal, passed, refused, refuse, require}
+use Rattle.predicate_semantics.specs.Tested.{passed, refused, refuse, require}
+use Rattle.predicate_answer.specs.Refusal.{Refusal}
 use Rattle.predicate_semantics.specs.Lane.{LaneState, Setup, on, run, attempt, step, finish}
 use Rattle.predicate_semantics.proofs.Sim.{Sim, agrees, bind-lane}
 

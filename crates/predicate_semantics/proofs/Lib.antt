@@ -15,5 +15,4 @@ pub mod Written
 pub mod RecordRules
 pub mod ExpandedWords
 pub mod Reached
-mod Entry
-pub mod TraceLaws
+pub mod TraceFits

@@ -9,7 +9,7 @@ use borrow.Author.Tests.{eqb-false}
 use Rattle.predicate_semantics.specs.Choice.{choose}
 use Rattle.predicate_semantics.specs.Program.{Program, stop}
 use Rattle.predicate_semantics.specs.State.{Result, apply}
-use Rattle.predicate_semantics.specs.Refusal.{Tested, passed, refused, refuse}
+use Rattle.predicate_semantics.specs.Tested.{Tested, passed, refused, refuse}
 use Rattle.predicate_semantics.specs.Lane.{LaneState, Setup, Ended, on, step, run, begin, start, laneRun}
 use Rattle.predicate_semantics.specs.Scalar.{ScalarState, scalarRun}
 use Rattle.predicate_semantics.specs.Scalar as Scalar

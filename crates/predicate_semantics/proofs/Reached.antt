@@ -6,7 +6,8 @@ use Prim.Native.Nat.{ℕ, zero, suc}
 use lib.Dec.{eqb}
 use Rattle.predicate_semantics.specs.Choice.{choose}
 use Rattle.predicate_semantics.specs.Program.{Program, stop}
-use Rattle.predicate_semantics.specs.Refusal.{Refusal, Tested, passed, refused, ifPassed}
+use Rattle.predicate_semantics.specs.Tested.{Tested, passed, refused, ifPassed}
+use Rattle.predicate_answer.specs.Refusal.{Refusal}
 use Rattle.predicate_semantics.specs.Lane.{LaneState, Setup, step, after, begin, start, reached}
 use Rattle.predicate_semantics.proofs.RecordRules.{Kept, kept-step, kept-start}
 

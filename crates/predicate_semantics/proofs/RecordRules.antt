@@ -21,14 +21,16 @@ use Rattle.predicate_action.specs.declared.Action.{Action}
 use Rattle.predicate_action.specs.declared.Action.the-variants.{Nothing, Literal, Compute, ComputeImmediate, Jump, JumpTo, Branch, Load, Store}
 use Rattle.predicate_action.specs.Meaning.{meaning}
 use Rattle.predicate_action.proofs.Targets.{Leads, meaning-leads}
-use Rattle.predicate_semantics.specs.declared.CompiledMmioEvent.{CompiledMmioEvent}
-use Rattle.predicate_semantics.specs.declared.PredicateControlStep.{PredicateControlStep}
+use Rattle.predicate_answer.specs.declared.CompiledMmioEvent.{CompiledMmioEvent}
+use Rattle.predicate_trace.specs.declared.PredicateControlStep.{PredicateControlStep}
 use Rattle.predicate_semantics.specs.declared.Rv32SymbolLayout.{Rv32SymbolLayout}
 use Rattle.predicate_semantics.specs.Choice.{choose}
-use Rattle.predicate_semantics.specs.Program.{Program, memoryEnd, stop, stopWord, maxEvents, imageEnd, sized, inMemory, symbolsPlaced}
+use Rattle.predicate_semantics.specs.Program.{Program, memoryEnd, stop, stopWord, imageEnd, sized, inMemory, symbolsPlaced}
+use Rattle.predicate_answer.specs.Blank.{maxEvents}
 use Rattle.predicate_semantics.specs.State.{Result, Effect, goes, sets, stores, Attempted, fill, atStart, recorded, advanced, apply}
 use Rattle.predicate_semantics.specs.Memory.{Written, LaneBytes, put, read, write}
-use Rattle.predicate_semantics.specs.Refusal.{Refusal, Tested, passed, refused, refuse, _>>=_}
+use Rattle.predicate_semantics.specs.Tested.{Tested, passed, refused, refuse, _>>=_}
+use Rattle.predicate_answer.specs.Refusal.{Refusal}
 use Rattle.predicate_semantics.specs.Lane.{LaneState, Setup, Ended, on, inside, laneCount, memoryOf, agreedAs, agreed, reg, access, accessAgreed, startTests, roomFor, decodeWord, expandHalfword, fetchFour, fetch, eventAt, execute, attempt, step, events, finishEvents, finish, run, begin, start, laneRun}
 use Rattle.predicate_semantics.specs.Standing.{standingCore, standing, setup, standingLaneRun}
 use Rattle.predicate_semantics.specs.RecordRules.{Chain, Words, ExpandsToWords, Completed, Accepted, TakesStep, proper}

@@ -5,8 +5,9 @@ use mathlib.Core.Option.{Option, none, some}
 use Prim.Native.Nat.{ℕ}
 use Rattle.predicate_semantics.specs.Choice.{choose}
 use Rattle.predicate_semantics.specs.State.{Result}
-use Rattle.predicate_semantics.specs.Refusal.{Refusal, Tested, passed, refused, refuse, require, found}
-use Rattle.predicate_semantics.specs.Refusal as Lane
+use Rattle.predicate_semantics.specs.Tested.{Tested, passed, refused, refuse, require, found}
+use Rattle.predicate_answer.specs.Refusal.{Refusal}
+use Rattle.predicate_semantics.specs.Tested as Lane
 use Rattle.predicate_semantics.specs.Lane.{LaneState, Ended, on}
 use Rattle.predicate_semantics.specs.Scalar as Scalar
 

@@ -13,7 +13,7 @@ use Rattle.predicate_action.specs.Reading.{readingOf}
 use Rattle.predicate_action.proofs.Sources.{Registers, sources-below}
 use Rattle.predicate_semantics.specs.Choice.{choose}
 use Rattle.predicate_semantics.specs.Memory.{LaneBytes}
-use Rattle.predicate_semantics.specs.Refusal.{Tested, passed, refused, refuse, found, _>>=_}
+use Rattle.predicate_semantics.specs.Tested.{Tested, passed, refused, refuse, found, _>>=_}
 use Rattle.predicate_semantics.specs.Lane.{decodeWord, expandHalfword, accessAgreed, fetchFour, fetch}
 use Rattle.predicate_semantics.specs.Standing.{decodedOperation, standingCore}
 

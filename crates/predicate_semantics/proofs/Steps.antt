@@ -15,14 +15,14 @@ use Rattle.lane_word.specs.Word.{constant}
 use Rattle.predicate_action.specs.declared.Action.{Action}
 use Rattle.predicate_action.specs.declared.Action.the-variants.{Nothing, Literal, Compute, ComputeImmediate, Jump, JumpTo, Branch, Load, Store}
 use Rattle.predicate_action.specs.Meaning.{extensionOf}
-use Rattle.predicate_semantics.specs.declared.CompiledMmioEvent.{CompiledMmioEvent}
+use Rattle.predicate_answer.specs.declared.CompiledMmioEvent.{CompiledMmioEvent}
 use Rattle.predicate_semantics.specs.declared.Rv32SymbolLayout.{Rv32SymbolLayout}
 use Rattle.predicate_semantics.specs.Choice.{choose}
 use Rattle.predicate_semantics.specs.Program.{Program, memoryEnd, stop, stopWord, stackPointer}
 use Rattle.predicate_semantics.specs.State.{Effect, goes, sets, stores, Attempted, advanced, apply}
 use Rattle.predicate_semantics.specs.Memory.{Written, LaneBytes, laneBytes}
 use Rattle.predicate_semantics.specs.Memory as Memory
-use Rattle.predicate_semantics.specs.Refusal.{Tested, refuse, require, ifPassed}
+use Rattle.predicate_semantics.specs.Tested.{Tested, refuse, require, ifPassed}
 use Rattle.predicate_semantics.specs.Lane.{LaneState, Setup, laneCount, reg}
 use Rattle.predicate_semantics.specs.Lane as Lane
 use Rattle.predicate_semantics.specs.Scalar.{Bytes, ScalarState}

@@ -17,7 +17,7 @@ use Rattle.predicate_semantics.specs.Program.{Program, initial}
 use Rattle.predicate_semantics.specs.State.{assign, fill, atStart}
 use Rattle.predicate_semantics.specs.Memory.{Written, byteAt, laneBytes}
 use Rattle.predicate_semantics.specs.Memory as Memory
-use Rattle.predicate_semantics.specs.Refusal.{refuse}
+use Rattle.predicate_semantics.specs.Tested.{refuse}
 use Rattle.predicate_semantics.specs.Lane.{Setup, agreedAs, agreed}
 use Rattle.predicate_semantics.specs.Scalar.{Bytes}
 use Rattle.predicate_semantics.specs.Scalar as Scalar

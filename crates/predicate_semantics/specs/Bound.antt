@@ -7,7 +7,7 @@ use Prim.Native.Nat.{ℕ, _≤_, _<_}
 use Rattle.riscv32imc.specs.Constants.{imageBase}
 use Rattle.predicate_semantics.specs.Program.{Program, stop}
 use Rattle.predicate_semantics.specs.State.{Result}
-use Rattle.predicate_semantics.specs.Refusal.{refuse}
+use Rattle.predicate_semantics.specs.Tested.{refuse}
 use Rattle.predicate_semantics.specs.Scalar.{scalarRun}
 use Rattle.predicate_semantics.specs.Lane.{Setup, laneRun}
 use Rattle.predicate_semantics.specs.Cases.{refuses, holds}

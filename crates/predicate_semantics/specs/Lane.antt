@@ -16,14 +16,15 @@ use Rattle.lane_word.specs.Word.{unknown, constant, domain, unary, binary, unif
 use Rattle.predicate_action.specs.declared.Action.{Action}
 use Rattle.predicate_action.specs.declared.Action.the-variants.{Nothing, Literal, Compute, ComputeImmediate, Jump, JumpTo, Branch, Load, Store}
 use Rattle.predicate_action.specs.Meaning.{extensionOf, meaning}
-use Rattle.predicate_semantics.specs.declared.CompiledMmioEvent.{CompiledMmioEvent}
-use Rattle.predicate_semantics.specs.declared.PredicateTransducerExecution.{PredicateTransducerExecution}
+use Rattle.predicate_answer.specs.declared.CompiledMmioEvent.{CompiledMmioEvent}
+use Rattle.predicate_answer.specs.declared.PredicateTransducerExecution.{PredicateTransducerExecution}
 use Rattle.predicate_semantics.specs.declared.Rv32SymbolLayout.{Rv32SymbolLayout}
 use Rattle.predicate_semantics.specs.Choice.{choose}
-use Rattle.predicate_semantics.specs.Program.{Core, Program, memoryEnd, stop, stopWord, stackPointer, maxEvents, eventStride, imageEnd, sized, symbolsPlaced}
+use Rattle.predicate_semantics.specs.Program.{Core, Program, memoryEnd, stop, stopWord, stackPointer, eventStride, imageEnd, sized, symbolsPlaced}
+use Rattle.predicate_answer.specs.Blank.{maxEvents}
 use Rattle.predicate_semantics.specs.State.{State, Result, Effect, goes, sets, stores, Attempted, fill, atStart, apply}
 use Rattle.predicate_semantics.specs.Memory.{Written, LaneBytes, laneBytes, read, write}
-use Rattle.predicate_semantics.specs.Refusal.{Tested, passed, refused, _>>=_, ifPassed, refuse, require, found}
+use Rattle.predicate_semantics.specs.Tested.{Tested, passed, refused, _>>=_, ifPassed, refuse, require, found}
 
 -- registers are lane words, memory the written bytes over the image and zeros
 abbrev pub LaneState : Type 0

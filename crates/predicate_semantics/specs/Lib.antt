@@ -3,14 +3,12 @@ pub mod Choice
 pub mod Program
 pub mod State
 pub mod Scalar
-pub mod Refusal
+pub mod Tested
 pub mod Memory
 pub mod Lane
 pub mod Standing
 pub mod Guarantee
 pub mod Cases
 pub mod Bound
-pub mod Trace
-pub mod Blank
 -- For proofs: rules that hold of every run, which the record's proofs cite.
 pub mod RecordRules

@@ -37,10 +37,6 @@ stopWord = 0x00100073
 abbrev pub stackPointer : ℕ
 stackPointer = 0x801FFFF0
 
--- the most events that a run may leave
-abbrev pub maxEvents : ℕ
-maxEvents = 32
-
 -- how far apart they lie: three words each
 abbrev pub eventStride : ℕ
 eventStride = 12

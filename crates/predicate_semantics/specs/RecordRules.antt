@@ -8,11 +8,13 @@ use Prim.Native.Nat.{ℕ, _≤_, _<_, _^_}
 use lib.Dec.{leb, eqb}
 use lib.ListN.{length}
 use Rattle.riscv32imc.specs.Constants.{maxMemoryBytes}
-use Rattle.predicate_semantics.specs.declared.PredicateControlStep.{PredicateControlStep}
+use Rattle.predicate_trace.specs.declared.PredicateControlStep.{PredicateControlStep}
 use Rattle.predicate_semantics.specs.declared.Rv32SymbolLayout.{Rv32SymbolLayout}
-use Rattle.predicate_semantics.specs.Program.{Core, Program, stop, maxEvents}
+use Rattle.predicate_semantics.specs.Program.{Core, Program, stop}
+use Rattle.predicate_answer.specs.Blank.{maxEvents}
 use Rattle.predicate_semantics.specs.State.{Result}
-use Rattle.predicate_semantics.specs.Refusal.{Refusal, passed}
+use Rattle.predicate_semantics.specs.Tested.{passed}
+use Rattle.predicate_answer.specs.Refusal.{Refusal}
 use Rattle.predicate_semantics.specs.Lane.{LaneState, Setup}
 use Rattle.predicate_semantics.specs.Standing.{standingLaneRun}
 

@@ -5,8 +5,8 @@ use Prim.Native.Nat.{ℕ, zero, suc}
 use lib.Dec.{eqb}
 use lib.ListN.{set}
 use Rattle.riscv_decode.specs.declared.Fetched.{Fetched}
-use Rattle.predicate_semantics.specs.declared.PredicateControlStep.{PredicateControlStep}
-use Rattle.predicate_semantics.specs.declared.CompiledMmioEvent.{CompiledMmioEvent}
+use Rattle.predicate_trace.specs.declared.PredicateControlStep.{PredicateControlStep}
+use Rattle.predicate_answer.specs.declared.CompiledMmioEvent.{CompiledMmioEvent}
 use Rattle.predicate_semantics.specs.Choice.{choose}
 
 -- Scalar run: the state of a run

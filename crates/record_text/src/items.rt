@@ -20,6 +20,8 @@ use lane_record::STEP_BYTES;
 use little_endian::get_u8;
 use little_endian::get_u16;
 use little_endian::get_u32;
+use predicate_answer::REFUSAL_TEXTS;
+use predicate_answer::ROLE_TEXTS;
 ghost use Prim.Native.Nat.{_≤_};
 
 fn put_heading_text(line: &mut Line, at: usize, s: &[u8]) -> usize {
@@ -48,25 +50,10 @@ fn put_step_text(line: &mut Line, at: usize, s: &[u8]) -> usize {
     put_instruction(line, place, get_u32(s, 5), pc)
 }
 
-// What happened, by the refusal's number.
-const REASONS: [u8; 367] = *b"| image empty or too large\
-| a symbol outside memory\
-| not at stop after 1,000,000 steps\
-| address below memory\
-| access past the end of memory\
-| unknown\
-| not uniform\
-| halfword not accepted\
-| word not accepted\
-| jump target 0\
-| store below the image's end\
-| event count above 32 or unlike the number of recorded SWs\
-| distinct written bytes exceed the rows\
-| no trace entry left";
-
 fn put_reason(line: &mut Line, at: usize, number: u8) -> usize {
-    let texts = REASONS;
-    put_choice(line, at, &texts, number)
+    let texts = REFUSAL_TEXTS;
+    let place = put(line, at, b" ");
+    put_choice(line, place, &texts, number)
 }
 
 fn put_cause(line: &mut Line, at: usize, number: u8) -> usize {
@@ -80,20 +67,14 @@ fn put_cause(line: &mut Line, at: usize, number: u8) -> usize {
 }
 
 // Role 0 is none.
-const ROLES: [u8; 191] = *b"|, role 1 fetch\
-|, role 2 jump target\
-|, role 3 load address\
-|, role 4 store address\
-|, role 5 branch\
-|, role 6 return value\
-|, role 7 event count\
-|, role 8 operation\
-|, role 9 offset\
-|, role 10 value";
-
 fn put_role(line: &mut Line, at: usize, role: u8) -> usize {
-    let texts = ROLES;
-    put_choice(line, at, &texts, role)
+    if role == 0 {
+        return at;
+    }
+    let texts = ROLE_TEXTS;
+    let place = put_small(line, at, b", role ", role);
+    let place = put(line, place, b" ");
+    put_choice(line, place, &texts, role)
 }
 
 fn put_refusal_text(line: &mut Line, at: usize, s: &[u8]) -> usize {

@@ -10,7 +10,7 @@ use lane_record::ReadAnswer;
 // The most steps of a record that is read here.
 const STEPS_READ: usize = 4_096;
 
-const TRACE_SPACE: usize = STEPS_READ * lane_record::ENTRY_BYTES;
+const TRACE_SPACE: usize = STEPS_READ * predicate_trace::ENTRY_BYTES;
 
 // One byte more than is taken; the longest record of so many steps is shorter.
 const INPUT_BYTES: usize = 65_537;

@@ -7,28 +7,30 @@ use lib.ListN.{length, take, drop}
 use lib.Seq.{take-append-seam}
 use Rattle.little_endian.specs.Lent.{over}
 use Rattle.riscv32imc.specs.Constants.{maxSteps}
-use Rattle.predicate_semantics.specs.declared.CompiledMmioEvent.{CompiledMmioEvent}
-use Rattle.predicate_semantics.specs.declared.PredicateControlStep.{PredicateControlStep}
-use Rattle.predicate_semantics.specs.declared.PredicateTransducerExecution.{PredicateTransducerExecution}
+use Rattle.predicate_answer.specs.declared.CompiledMmioEvent.{CompiledMmioEvent}
+use Rattle.predicate_trace.specs.declared.PredicateControlStep.{PredicateControlStep}
+use Rattle.predicate_answer.specs.declared.PredicateTransducerExecution.{PredicateTransducerExecution}
 use Rattle.predicate_semantics.specs.declared.Rv32SymbolLayout.{Rv32SymbolLayout}
 use Rattle.predicate_semantics.specs.State.{Result}
-use Rattle.predicate_semantics.specs.Refusal.{Tested, passed, refused}
+use Rattle.predicate_semantics.specs.Tested.{Tested, passed, refused}
 use Rattle.predicate_semantics.specs.Lane.{Ended, execution, LaneState}
 use Rattle.predicate_semantics.specs.Standing.{standingLaneRun}
-use Rattle.predicate_semantics.specs.Trace.{traceBytes, stepsAt}
-use Rattle.predicate_semantics.specs.Blank.{noEvents}
+use Rattle.predicate_trace.specs.Trace.{traceBytes, stepsAt}
+use Rattle.predicate_answer.specs.Blank.{noEvents}
 use Rattle.predicate_semantics.specs.RecordRules.{Accepted}
 use Rattle.predicate_semantics.proofs.Guarantee.{guarantee}
 use Rattle.predicate_semantics.proofs.RecordRules as Rules
-use Rattle.predicate_semantics.proofs.TraceLaws.{trace-back, standing-trace-fits, standing-completed}
+use Rattle.predicate_trace.proofs.TraceLaws.{trace-back}
+use Rattle.predicate_semantics.proofs.TraceFits.{standing-trace-fits, standing-completed}
 use Rattle.lane_memory.specs.Rows.{rowCount, cleared, unmarked}
 use Rattle.lane_memory.specs.Holds.{Holds}
 use Rattle.lane_memory.proofs.Laws.{unmarked-holds, cleared-unmarked}
-use Rattle.lane_access.specs.Answers.{refusalOf}
+use Rattle.predicate_answer.specs.Refusal.{refusalOf}
 use Rattle.riscv32imc_predicate.specs.declared.PredicateAnswer.{PredicateAnswer}
 use Rattle.riscv32imc_predicate.specs.declared.PredicateAnswer.the-variants as answer
 use Rattle.riscv32imc_predicate.specs.declared.PredicateRun.{PredicateRun}
-use Rattle.riscv32imc_predicate.specs.Tracking.{entryCount, Call, called, program, space}
+use Rattle.riscv32imc_predicate.specs.Tracking.{Call, called, program, space}
+use Rattle.predicate_trace.specs.Trace.{entryCount}
 use Rattle.riscv32imc_predicate.specs.Outcome.{resultBy, resultIn, executionIn, eventsIn, runOver, Ran}
 use Rattle.riscv32imc_predicate.specs.Reporting.{Says, Reports, Runs}
 

@@ -10,16 +10,17 @@ use Rattle.riscv32imc.specs.Constants.{maxSteps}
 use Rattle.riscv_decode.specs.declared.Fetched.{Fetched}
 use Rattle.lane_word.specs.Word.{inputs, firstInput, lanes}
 use Rattle.predicate_semantics.specs.Program.{stop}
-use Rattle.predicate_semantics.specs.Refusal.{Refusal, Tested, passed, refused, _>>=_, refuse}
+use Rattle.predicate_semantics.specs.Tested.{Tested, passed, refused, _>>=_, refuse}
+use Rattle.predicate_answer.specs.Refusal.{Refusal}
 use Rattle.predicate_semantics.specs.Lane.{LaneState, memoryOf, fetch, attempt, step, run}
 use Rattle.predicate_semantics.specs.Standing.{standingCore, standing, setup}
 use Rattle.predicate_semantics.proofs.Laws.{run-out, run-refused}
 use Rattle.predicate_action.specs.Meaning.{meaning}
 use Rattle.predicate_action.specs.Reading.{readingOf}
-use Rattle.lane_access.specs.declared.Rv32Error.{Rv32Error}
-use Rattle.lane_access.specs.declared.Rv32Error.the-variants as error
+use Rattle.predicate_answer.specs.declared.Rv32Error.{Rv32Error}
+use Rattle.predicate_answer.specs.declared.Rv32Error.the-variants as error
 use Rattle.lane_access.specs.Seen.{seen}
-use Rattle.lane_access.specs.Answers.{refusalOf}
+use Rattle.predicate_answer.specs.Refusal.{refusalOf}
 use Rattle.riscv32imc_predicate.specs.declared.Place.{Place}
 use Rattle.riscv32imc_predicate.specs.declared.Ending.{Ending}
 use Rattle.riscv32imc_predicate.specs.declared.Ending.the-variants as ending

@@ -22,7 +22,7 @@ use Rattle.riscv32imc.specs.Value.{valueOf}
 use Rattle.predicate_semantics.specs.Program.{Program, imageEnd}
 use Rattle.predicate_semantics.specs.State.{Effect, goes, sets, stores}
 use Rattle.predicate_semantics.specs.Memory.{write}
-use Rattle.predicate_semantics.specs.Refusal.{Tested, passed, refused, _>>=_, require}
+use Rattle.predicate_semantics.specs.Tested.{Tested, passed, refused, _>>=_, require}
 use Rattle.predicate_semantics.specs.Lane.{LaneState, Setup, laneCount, reg, inside, agreedAs, agreed, access, roomFor, execute}
 use Rattle.lane_memory.specs.declared.Found.{Found}
 use Rattle.lane_memory.specs.declared.Found.the-variants.{At, Free, Full}

@@ -12,14 +12,15 @@ use Rattle.little_endian.specs.Pack.{pack}
 use Rattle.little_endian.proofs.SetLaws.{sets-append, sets-over}
 use Rattle.lane_word.specs.declared.LaneWord.{LaneWord}
 use Rattle.lane_word.proofs.Tab.{length-inputs}
-use Rattle.predicate_semantics.specs.declared.PredicateControlStep.{PredicateControlStep}
+use Rattle.predicate_trace.specs.declared.PredicateControlStep.{PredicateControlStep}
 use Rattle.predicate_semantics.specs.State.{Effect, recorded}
-use Rattle.predicate_semantics.specs.Refusal.{Refusal, Tested, passed, refused, _>>=_, refuse, require}
+use Rattle.predicate_semantics.specs.Tested.{Tested, passed, refused, _>>=_, refuse, require}
+use Rattle.predicate_answer.specs.Refusal.{Refusal}
 use Rattle.predicate_semantics.specs.Lane.{LaneState, laneCount, memoryOf}
 use Rattle.predicate_semantics.specs.Standing.{standing, setup}
-use Rattle.predicate_semantics.specs.Trace.{entryBytes, stepWidths, stepValues, traceBytes, putEntry}
+use Rattle.predicate_trace.specs.Trace.{entryBytes, stepWidths, stepValues, traceBytes, putEntry}
 use Rattle.predicate_semantics.proofs.RecordRules.{Kept}
-use Rattle.predicate_semantics.proofs.TraceLaws.{length-trace, entry-inside}
+use Rattle.predicate_trace.proofs.TraceLaws.{length-trace, entry-inside}
 use Rattle.predicate_semantics.proofs.Reached.{no-pass, kept-reached}
 use Rattle.lane_memory.proofs.Laws.{holds-new}
 use Rattle.lane_access.specs.Seen.{seen}
@@ -27,7 +28,8 @@ use Rattle.lane_access.proofs.Laws.{seen-holds}
 use Rattle.riscv32imc_predicate.specs.declared.Place.{Place}
 use Rattle.riscv32imc_predicate.specs.declared.Recorded.{Recorded}
 use Rattle.riscv32imc_predicate.specs.Changes.{Given}
-use Rattle.riscv32imc_predicate.specs.Tracking.{entryCount, Call, program, space, Tracks, IsAt, Located, Keeps}
+use Rattle.riscv32imc_predicate.specs.Tracking.{Call, program, space, Tracks, IsAt, Located, Keeps}
+use Rattle.predicate_trace.specs.Trace.{entryCount}
 
 -- ---- the trace's bytes
 

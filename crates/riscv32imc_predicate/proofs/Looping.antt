@@ -17,7 +17,7 @@ use Rattle.lane_word.specs.Word.{unknown, constant, binary, uniformOf}
 use Rattle.lane_word.specs.Told.{wordOf, toldBy}
 use Rattle.lane_word.proofs.Tab.{length-inputs}
 use Rattle.lane_word.proofs.ToldLaws.{binary-size, word-size, told-by-value}
-use Rattle.predicate_semantics.specs.Refusal.{passed}
+use Rattle.predicate_semantics.specs.Tested.{passed}
 use Rattle.predicate_semantics.specs.State.{Effect, goes, sets, stores, assign, apply, advanced}
 use Rattle.predicate_semantics.specs.Lane.{LaneState, laneCount, reg, begin}
 use Rattle.predicate_semantics.specs.Standing.{standingCore, standing, setup}
@@ -38,7 +38,8 @@ use Rattle.riscv32imc_predicate.specs.declared.Progress.{Progress}
 use Rattle.riscv32imc_predicate.specs.declared.Reached.{Reached}
 use Rattle.riscv32imc_predicate.specs.declared.Recorded.{Recorded}
 use Rattle.riscv32imc_predicate.specs.Changes.{decisionOf, changeOf, Untold, Suits, Sources}
-use Rattle.riscv32imc_predicate.specs.Tracking.{entryCount, Call, program, space, firstState, rest, Tracks, Keeps, Continues, Comes, Ready, Readied, Arrives, Begins, startRecorded, Located, Decides, Follows}
+use Rattle.riscv32imc_predicate.specs.Tracking.{Call, program, space, firstState, rest, Tracks, Keeps, Continues, Comes, Ready, Readied, Arrives, Begins, startRecorded, Located, Decides, Follows}
+use Rattle.predicate_trace.specs.Trace.{entryCount}
 use Rattle.riscv32imc_predicate.specs.Register.{registerCount, firstOperand, secondOperand, startRegisters, Held, slotOf, operandTold, placeOf, laidOut, Stores, LoadsLanes}
 use Rattle.riscv32imc_predicate.proofs.Filing.{read-any, held-source, held-lanes, held-value, held-word, held-laid, laid-read, laid-other, place-apart, operand-word}
 use Rattle.riscv32imc_predicate.proofs.Following.{is-at, given, same-length}

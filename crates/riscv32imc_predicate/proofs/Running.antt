@@ -15,28 +15,30 @@ use Rattle.riscv32imc.specs.Constants.{imageBase, maxImageBytes, maxSteps}
 use Rattle.lane_word.specs.declared.LaneWord.{LaneWord}
 use Rattle.lane_word.specs.Word.{constant, inputs}
 use Rattle.lane_word.proofs.Tab.{length-inputs}
-use Rattle.predicate_semantics.specs.declared.CompiledMmioEvent.{CompiledMmioEvent}
-use Rattle.predicate_semantics.specs.declared.PredicateTransducerExecution.{PredicateTransducerExecution}
+use Rattle.predicate_answer.specs.declared.CompiledMmioEvent.{CompiledMmioEvent}
+use Rattle.predicate_answer.specs.declared.PredicateTransducerExecution.{PredicateTransducerExecution}
 use Rattle.predicate_semantics.specs.declared.Rv32SymbolLayout.{Rv32SymbolLayout}
 use Rattle.predicate_semantics.specs.Choice.{choose}
-use Rattle.predicate_semantics.specs.Program.{stop, stopWord, maxEvents, eventStride, memoryEnd, sized, symbolsPlaced, inMemory}
+use Rattle.predicate_semantics.specs.Program.{stop, stopWord, eventStride, memoryEnd, sized, symbolsPlaced, inMemory}
+use Rattle.predicate_answer.specs.Blank.{maxEvents}
 use Rattle.predicate_semantics.specs.State.{Result}
 use Rattle.predicate_semantics.specs.Memory.{put, write}
-use Rattle.predicate_semantics.specs.Refusal.{Refusal, Tested, passed, refused, _>>=_, ifPassed, refuse, require}
+use Rattle.predicate_semantics.specs.Tested.{Tested, passed, refused, _>>=_, ifPassed, refuse, require}
+use Rattle.predicate_answer.specs.Refusal.{Refusal}
 use Rattle.predicate_semantics.specs.Lane.{LaneState, Ended, laneCount, on, run, after, begin, startTests, start, laneRun, reached, laneOperations, writtenBytes, execution, finish}
 use Rattle.predicate_semantics.specs.Standing.{standing, setup, standingLaneRun}
-use Rattle.predicate_semantics.specs.Blank.{noExecution, noEvents}
+use Rattle.predicate_answer.specs.Blank.{noExecution, noEvents}
 use Rattle.predicate_semantics.proofs.Laws.{run-stop}
 use Rattle.predicate_semantics.proofs.RecordRules.{Kept, kept-start, events-located}
 use Rattle.predicate_semantics.proofs.Reached.{no-pass}
-use Rattle.predicate_semantics.specs.Trace.{traceBytes}
+use Rattle.predicate_trace.specs.Trace.{traceBytes}
 use Rattle.lane_memory.specs.Rows.{rowCount, storeValues, cleared}
 use Rattle.lane_memory.specs.Holds.{Holds}
 use Rattle.lane_memory.proofs.Laws.{holds-store-value}
-use Rattle.lane_access.specs.declared.Rv32Error.{Rv32Error}
+use Rattle.predicate_answer.specs.declared.Rv32Error.{Rv32Error}
 use Rattle.lane_access.specs.declared.Verdict.{Verdict}
 use Rattle.lane_access.specs.declared.Verdict.the-variants as verdict
-use Rattle.lane_access.specs.Answers.{refusalOf}
+use Rattle.predicate_answer.specs.Refusal.{refusalOf}
 use Rattle.lane_access.proofs.Laws.{above-write}
 use Rattle.riscv32imc_predicate.specs.declared.Place.{Place}
 use Rattle.riscv32imc_predicate.specs.declared.Ending.{Ending}
@@ -45,7 +47,8 @@ use Rattle.riscv32imc_predicate.specs.declared.Recorded.{Recorded}
 use Rattle.riscv32imc_predicate.specs.declared.Reached.{Reached}
 use Rattle.riscv32imc_predicate.specs.declared.PredicateAnswer.the-variants as answer
 use Rattle.riscv32imc_predicate.specs.declared.PredicateRun.{PredicateRun}
-use Rattle.riscv32imc_predicate.specs.Tracking.{entryCount, Call, called, program, space, firstState, rest, Tracks, Ends, Begins, Arrives, startPlace}
+use Rattle.riscv32imc_predicate.specs.Tracking.{Call, called, program, space, firstState, rest, Tracks, Ends, Begins, Arrives, startPlace}
+use Rattle.predicate_trace.specs.Trace.{entryCount}
 use Rattle.riscv32imc_predicate.specs.Finishing.{Answers}
 use Rattle.riscv32imc_predicate.specs.Outcome.{runOver}
 use Rattle.riscv32imc_predicate.specs.Reporting.{refusedRun, Reports, Counts, Runs}

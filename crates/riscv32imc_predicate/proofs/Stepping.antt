@@ -15,14 +15,15 @@ use Rattle.riscv32imc.specs.Arithmetic.{add}
 use Rattle.riscv32imc.specs.Constants.{imageBase, maxSteps, maxMemoryBytes}
 use Rattle.riscv_decode.specs.declared.Fetched.{Fetched}
 use Rattle.lane_word.specs.declared.LaneWord.{LaneWord}
-use Rattle.predicate_semantics.specs.declared.PredicateControlStep.{PredicateControlStep}
+use Rattle.predicate_trace.specs.declared.PredicateControlStep.{PredicateControlStep}
 use Rattle.predicate_semantics.specs.State.{Effect, Attempted, goes, sets, stores, advanced, apply}
 use Rattle.predicate_semantics.specs.Memory.{write}
-use Rattle.predicate_semantics.specs.Refusal.{Refusal, Tested, passed, refused, _>>=_, require}
+use Rattle.predicate_semantics.specs.Tested.{Tested, passed, refused, _>>=_, require}
+use Rattle.predicate_answer.specs.Refusal.{Refusal}
 use Rattle.predicate_semantics.specs.Lane.{LaneState, memoryOf, fetch, execute, attempt, step, run}
 use Rattle.predicate_semantics.specs.Lane as Lane
 use Rattle.predicate_semantics.specs.Standing.{standing, setup}
-use Rattle.predicate_semantics.specs.Trace.{entryBytes, stepWidths, stepValues, traceBytes}
+use Rattle.predicate_trace.specs.Trace.{entryBytes, stepWidths, stepValues, traceBytes}
 use Rattle.predicate_semantics.proofs.Laws.{run-next, run-refused}
 use Rattle.predicate_semantics.proofs.RecordRules.{Kept, Clear, effect-clear, room}
 use Rattle.predicate_semantics.proofs.Reached.{reached-next, kept-reached}
@@ -30,9 +31,9 @@ use Rattle.predicate_action.specs.declared.Action.{Action}
 use Rattle.predicate_action.specs.Meaning.{meaning}
 use Rattle.lane_memory.specs.Holds.{Holds}
 use Rattle.lane_memory.proofs.Laws.{holds-new}
-use Rattle.lane_access.specs.declared.Rv32Error.{Rv32Error}
+use Rattle.predicate_answer.specs.declared.Rv32Error.{Rv32Error}
 use Rattle.lane_access.specs.Seen.{seen, Above}
-use Rattle.lane_access.specs.Answers.{refusalOf}
+use Rattle.predicate_answer.specs.Refusal.{refusalOf}
 use Rattle.lane_access.proofs.Laws.{above-write}
 use Rattle.riscv32imc_predicate.specs.declared.Decision.{Decision}
 use Rattle.riscv32imc_predicate.specs.declared.Decision.the-variants as decision
@@ -42,7 +43,8 @@ use Rattle.riscv32imc_predicate.specs.declared.Progress.{Progress}
 use Rattle.riscv32imc_predicate.specs.declared.Recorded.{Recorded}
 use Rattle.riscv32imc_predicate.specs.Changes.{decisionOf, lastTested}
 use Rattle.riscv32imc_predicate.specs.Register.{Stores}
-use Rattle.riscv32imc_predicate.specs.Tracking.{entryCount, Call, program, space, rest, Tracks, Keeps, Continues, Ends, Comes, Ready, Completes, Located, Stays}
+use Rattle.riscv32imc_predicate.specs.Tracking.{Call, program, space, rest, Tracks, Keeps, Continues, Ends, Comes, Ready, Completes, Located, Stays}
+use Rattle.predicate_trace.specs.Trace.{entryCount}
 use Rattle.riscv32imc_predicate.proofs.Following.{entry-over, entry-fits, last-passed, last-refused, is-at, kept, same-entries, located-after}
 
 abbrev Off : Bool → Type 0

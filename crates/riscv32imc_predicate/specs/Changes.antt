@@ -13,7 +13,7 @@ use Rattle.predicate_semantics.specs.Choice.{choose}
 use Rattle.predicate_semantics.specs.Program.{Program}
 use Rattle.predicate_semantics.specs.State.{Effect, goes, sets, stores}
 use Rattle.predicate_semantics.specs.Memory.{LaneBytes, read, write}
-use Rattle.predicate_semantics.specs.Refusal.{Tested, passed, refused, _>>=_, require}
+use Rattle.predicate_semantics.specs.Tested.{Tested, passed, refused, _>>=_, require}
 use Rattle.predicate_semantics.specs.Lane.{LaneState, Setup, memoryOf, inside, agreedAs, access, roomFor, reg, execute}
 use Rattle.predicate_action.specs.declared.Action.{Action}
 use Rattle.predicate_action.specs.declared.Extension.{Extension}
@@ -21,7 +21,7 @@ use Rattle.predicate_action.specs.Meaning.{extensionOf}
 use Rattle.predicate_action.specs.Reading.{readingOf, computed}
 use Rattle.lane_memory.specs.Rows.{rowCount, newBytes}
 use Rattle.lane_access.specs.Seen.{seen}
-use Rattle.lane_access.specs.Answers.{refusalOf}
+use Rattle.predicate_answer.specs.Refusal.{refusalOf}
 use Rattle.riscv32imc_predicate.specs.declared.Change.{Change}
 use Rattle.riscv32imc_predicate.specs.declared.Change.the-variants as change
 use Rattle.riscv32imc_predicate.specs.declared.Decision.{Decision}

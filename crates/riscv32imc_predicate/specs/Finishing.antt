@@ -5,18 +5,18 @@ use Prim.Native.Nat.{ℕ}
 use Rattle.little_endian.specs.Lent.{over}
 use Rattle.lane_word.specs.declared.LaneWord.{LaneWord}
 use Rattle.lane_word.specs.Word.{inputs, firstInput, lanes}
-use Rattle.predicate_semantics.specs.declared.CompiledMmioEvent.{CompiledMmioEvent}
+use Rattle.predicate_answer.specs.declared.CompiledMmioEvent.{CompiledMmioEvent}
 use Rattle.predicate_semantics.specs.declared.Rv32SymbolLayout.{Rv32SymbolLayout}
 use Rattle.predicate_semantics.specs.Program.{Program}
 use Rattle.predicate_semantics.specs.State.{Result}
-use Rattle.predicate_semantics.specs.Refusal.{Tested, passed, refused}
+use Rattle.predicate_semantics.specs.Tested.{Tested, passed, refused}
 use Rattle.predicate_semantics.specs.Lane.{LaneState, Setup, memoryOf, reg, events, finishEvents, finish}
-use Rattle.predicate_semantics.specs.Blank.{noEvents}
-use Rattle.lane_access.specs.declared.Rv32Error.{Rv32Error}
+use Rattle.predicate_answer.specs.Blank.{noEvents}
+use Rattle.predicate_answer.specs.declared.Rv32Error.{Rv32Error}
 use Rattle.lane_access.specs.declared.Verdict.{Verdict}
 use Rattle.lane_access.specs.declared.Verdict.the-variants as verdict
 use Rattle.lane_access.specs.Seen.{seen}
-use Rattle.lane_access.specs.Answers.{refusalOf}
+use Rattle.predicate_answer.specs.Refusal.{refusalOf}
 use Rattle.riscv32imc_predicate.specs.declared.Recorded.{Recorded}
 use Rattle.riscv32imc_predicate.specs.declared.finish.Finished.{Finished}
 use Rattle.riscv32imc_predicate.specs.Tracking.{Keeps}

@@ -6,24 +6,20 @@ use Prim.Native.Nat.{ℕ, _/_, _≤_}
 use lib.ListN.{length, take}
 use Rattle.little_endian.specs.Lent.{over}
 use Rattle.lane_word.specs.Word.{firstInput}
-use Rattle.predicate_semantics.specs.declared.CompiledMmioEvent.{CompiledMmioEvent}
-use Rattle.predicate_semantics.specs.declared.PredicateTransducerExecution.{PredicateTransducerExecution}
+use Rattle.predicate_answer.specs.declared.CompiledMmioEvent.{CompiledMmioEvent}
+use Rattle.predicate_answer.specs.declared.PredicateTransducerExecution.{PredicateTransducerExecution}
 use Rattle.predicate_semantics.specs.declared.Rv32SymbolLayout.{Rv32SymbolLayout}
 use Rattle.predicate_semantics.specs.State.{Result}
-use Rattle.predicate_semantics.specs.Refusal.{Tested, passed, refused}
+use Rattle.predicate_semantics.specs.Tested.{Tested, passed, refused}
 use Rattle.predicate_semantics.specs.Lane.{LaneState, Ended, execution}
 use Rattle.predicate_semantics.specs.Standing.{lastInput, standing, setup, standingLaneRun, standingScalarRun}
-use Rattle.predicate_semantics.specs.Blank.{noExecution, noEvents}
-use Rattle.predicate_semantics.specs.Trace.{entryBytes, traceBytes, stepsAt}
+use Rattle.predicate_answer.specs.Blank.{noExecution, noEvents}
+use Rattle.predicate_trace.specs.Trace.{entryBytes, traceBytes, stepsAt}
 use Rattle.lane_memory.specs.Rows.{rowCount, cleared}
-use Rattle.lane_access.specs.Answers.{refusalOf}
+use Rattle.predicate_answer.specs.Refusal.{refusalOf}
 use Rattle.riscv32imc_predicate.specs.declared.PredicateAnswer.{PredicateAnswer}
 use Rattle.riscv32imc_predicate.specs.declared.PredicateAnswer.the-variants as answer
 use Rattle.riscv32imc_predicate.specs.declared.PredicateRun.{PredicateRun}
-
--- `Control step`: the whole entries that are lent
-abbrev pub entryCount : List ℕ → ℕ
-entryCount trace = length trace / entryBytes
 
 -- `Record`: what the code's answer, with the trace that it leaves, is in the semantics; an entry for each step is read back from the trace
 abbrev pub resultBy : PredicateAnswer → PredicateTransducerExecution → List CompiledMmioEvent → List ℕ → Tested Result

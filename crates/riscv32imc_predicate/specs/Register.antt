@@ -13,7 +13,7 @@ use Rattle.lane_word.specs.Told.{wordOf}
 use Rattle.predicate_semantics.specs.Program.{stop, stackPointer}
 use Rattle.predicate_semantics.specs.State.{fill, atStart}
 use Rattle.predicate_semantics.specs.Memory.{Written, read, write}
-use Rattle.predicate_semantics.specs.Refusal.{passed}
+use Rattle.predicate_semantics.specs.Tested.{passed}
 use Rattle.predicate_semantics.specs.Lane.{inside}
 use Rattle.predicate_action.specs.declared.Extension.{Extension}
 use Rattle.predicate_action.specs.declared.Reading.{Reading}

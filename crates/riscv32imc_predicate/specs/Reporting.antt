@@ -7,20 +7,21 @@ use Rattle.little_endian.specs.Lent.{over}
 use Rattle.riscv32imc.specs.Constants.{maxSteps}
 use Rattle.predicate_semantics.specs.declared.Rv32SymbolLayout.{Rv32SymbolLayout}
 use Rattle.predicate_semantics.specs.State.{Result}
-use Rattle.predicate_semantics.specs.Refusal.{Tested, passed, refused}
+use Rattle.predicate_semantics.specs.Tested.{Tested, passed, refused}
 use Rattle.predicate_semantics.specs.Lane.{LaneState, finish}
-use Rattle.predicate_semantics.specs.Blank.{noExecution, noEvents}
-use Rattle.predicate_semantics.specs.Trace.{traceBytes}
+use Rattle.predicate_answer.specs.Blank.{noExecution, noEvents}
+use Rattle.predicate_trace.specs.Trace.{traceBytes}
 use Rattle.lane_memory.specs.Rows.{cleared}
-use Rattle.lane_access.specs.declared.Rv32Error.{Rv32Error}
-use Rattle.lane_access.specs.Answers.{refusalOf}
+use Rattle.predicate_answer.specs.declared.Rv32Error.{Rv32Error}
+use Rattle.predicate_answer.specs.Refusal.{refusalOf}
 use Rattle.riscv32imc_predicate.specs.declared.Place.{Place}
 use Rattle.riscv32imc_predicate.specs.declared.Recorded.{Recorded}
 use Rattle.riscv32imc_predicate.specs.declared.finish.Finished.{Finished}
 use Rattle.riscv32imc_predicate.specs.declared.PredicateAnswer.{PredicateAnswer}
 use Rattle.riscv32imc_predicate.specs.declared.PredicateAnswer.the-variants as answer
 use Rattle.riscv32imc_predicate.specs.declared.PredicateRun.{PredicateRun}
-use Rattle.riscv32imc_predicate.specs.Outcome.{entryCount, executionIn, eventsIn, runOver}
+use Rattle.riscv32imc_predicate.specs.Outcome.{executionIn, eventsIn, runOver}
+use Rattle.predicate_trace.specs.Trace.{entryCount}
 use Rattle.riscv32imc_predicate.specs.Tracking.{Call, called, program, space}
 use Rattle.riscv32imc_predicate.specs.Finishing.{Answers}
 

@@ -14,21 +14,22 @@ use Rattle.lane_word.specs.declared.LaneWord.{LaneWord}
 use Rattle.lane_word.specs.declared.Uniform.{Uniform}
 use Rattle.lane_word.specs.Word.{inputs, firstInput, lanes}
 use Rattle.predicate_semantics.specs.declared.Rv32SymbolLayout.{Rv32SymbolLayout}
-use Rattle.predicate_semantics.specs.Program.{Program, stop, maxEvents}
+use Rattle.predicate_semantics.specs.Program.{Program, stop}
+use Rattle.predicate_answer.specs.Blank.{maxEvents}
 use Rattle.predicate_semantics.specs.State.{recorded}
 use Rattle.predicate_semantics.specs.Memory.{LaneBytes}
-use Rattle.predicate_semantics.specs.Refusal.{passed, refused}
+use Rattle.predicate_semantics.specs.Tested.{passed, refused}
 use Rattle.predicate_semantics.specs.Lane.{LaneState, Setup, memoryOf, reg, fetch, execute, run, begin}
 use Rattle.predicate_semantics.specs.Lane as Lane
 use Rattle.predicate_semantics.specs.Standing.{standingCore, standing, setup}
-use Rattle.predicate_semantics.specs.Trace.{entryBytes, traceBytes, putEntry}
+use Rattle.predicate_trace.specs.Trace.{entryBytes, traceBytes, putEntry}
 use Rattle.predicate_action.specs.Meaning.{meaning}
 use Rattle.predicate_action.specs.Reading.{readingOf, computed}
 use Rattle.lane_memory.specs.Rows.{rowCount}
 use Rattle.lane_memory.specs.Holds.{Holds}
 use Rattle.lane_access.specs.Seen.{seen, Above}
-use Rattle.lane_access.specs.declared.Rv32Error.{Rv32Error}
-use Rattle.lane_access.specs.Answers.{refusalOf}
+use Rattle.predicate_answer.specs.declared.Rv32Error.{Rv32Error}
+use Rattle.predicate_answer.specs.Refusal.{refusalOf}
 use Rattle.riscv32imc_predicate.specs.declared.Place.{Place}
 use Rattle.riscv32imc_predicate.specs.declared.Recorded.{Recorded}
 use Rattle.riscv32imc_predicate.specs.declared.Ending.{Ending}
@@ -40,7 +41,7 @@ use Rattle.riscv32imc_predicate.specs.Changes.{decisionOf, lastTested, S
 use Rattle.riscv32imc_predicate.specs.declared.Reached.{Reached}
 use Rattle.riscv32imc_predicate.specs.declared.ready.Instruction.{Instruction}
 use Rattle.riscv32imc_predicate.specs.declared.ready.Instruction.the-variants as instruction
-pub use Rattle.riscv32imc_predicate.specs.Outcome.{entryCount}
+pub use Rattle.predicate_trace.specs.Trace.{entryCount}
 
 -- the first locations are kept, all of them counted
 abbrev pub Keeps : Recorded → List ℕ → Type 0

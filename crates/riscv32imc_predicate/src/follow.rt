@@ -1,6 +1,6 @@
 // After a decision: the step's trace entry, its location, the next place.
 use super::Decision;
-use super::ENTRY_BYTES;
+use predicate_trace::ENTRY_BYTES;
 use super::EVENT_LIMIT;
 use super::Ending;
 use super::Place;
@@ -8,8 +8,8 @@ use super::Progress;
 use super::Recorded;
 use super::ready::ended;
 use super::ready::ready;
-use predicate_semantics::PredicateControlStep;
-use predicate_semantics::put_entry;
+use predicate_trace::PredicateControlStep;
+use predicate_trace::put_entry;
 use riscv32imc::arithmetic::rv32_add;
 ghost use mathlib.Core.Path.{_≡_};
 ghost use Rattle.riscv32imc_predicate.specs.Tracking.{movedTo, Added, Located, Completes, Follows};

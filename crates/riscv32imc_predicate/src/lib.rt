@@ -8,18 +8,15 @@ mod run;
 mod start;
 
 ghost use Rattle.riscv32imc_predicate.specs.Outcome.{Ran};
-use lane_access::Rv32Error;
+use predicate_answer::Rv32Error;
 use lane_word::LaneWord;
 use predicate_action::Action;
 use predicate_action::Extension;
 use predicate_action::Reading;
-use predicate_semantics::CompiledMmioEvent;
-use predicate_semantics::MAX_EVENTS;
-use predicate_semantics::PredicateTransducerExecution;
+use predicate_answer::CompiledMmioEvent;
+use predicate_answer::MAX_EVENTS;
+use predicate_answer::PredicateTransducerExecution;
 use predicate_semantics::Rv32SymbolLayout;
-
-// Bytes of a trace entry.
-pub const ENTRY_BYTES: usize = predicate_semantics::ENTRY_BYTES;
 
 // The most events, as a count of them.
 const EVENT_LIMIT: u32 = MAX_EVENTS as u32;

@@ -1,4 +1,5 @@
 // The whole run over rows without a mark, and what it answers.
+use predicate_answer::no_execution;
 use super::Ending;
 use super::Place;
 use super::PredicateAnswer;
@@ -6,40 +7,26 @@ use super::PredicateRun;
 use super::Recorded;
 use super::finish::Finished;
 use super::finish::finish;
-use super::finish::no_events;
+use predicate_answer::no_events;
 use super::run::advance;
 use super::start::start_place;
 use super::start::start_test;
-use lane_access::Rv32Error;
+use predicate_answer::Rv32Error;
 use lane_access::Verdict;
 use lane_word::LaneWord;
-use predicate_semantics::PredicateTransducerExecution;
+use predicate_answer::PredicateTransducerExecution;
 use predicate_semantics::Rv32SymbolLayout;
 use predicate_semantics::STOP;
 use predicate_semantics::STOP_WORD;
 ghost use mathlib.Core.Path.{_≡_};
 ghost use mathlib.Core.List.{[]};
-ghost use Rattle.predicate_semantics.specs.Blank.{noExecution};
+ghost use Rattle.predicate_answer.specs.Blank.{noExecution};
 ghost use Rattle.lane_memory.specs.Rows.{rowCount};
 ghost use Rattle.lane_memory.specs.Holds.{Holds};
 ghost use Rattle.riscv32imc_predicate.specs.Reporting.{refusedRun, Answered, Runs};
 
 // The lanes, as a factor of lane operations.
 const LANE_COUNT: u32 = LaneWord::LANES as u32;
-
-fn no_execution() -> PredicateTransducerExecution
-    ensures { λ r. ⌜ r ≡ noExecution ⌝ }
-{
-    PredicateTransducerExecution {
-        first_input: 0,
-        lane_count: 0,
-        return_value: 0,
-        symbolic_transitions: 0,
-        lane_value_operations: 0,
-        sparse_memory_bytes: 0,
-        event_count: 0,
-    }
-}
 
 fn refused(error: Rv32Error, steps: u32) -> PredicateRun
     ensures { λ r. ⌜ r ≡ refusedRun error steps ⌝ }

@@ -3,7 +3,7 @@ use super::Ending;
 use super::Place;
 use super::Progress;
 use lane_access::Fetching;
-use lane_access::Rv32Error;
+use predicate_answer::Rv32Error;
 use predicate_action::Action;
 use predicate_action::reading_of;
 use predicate_semantics::STOP;

@@ -1,6 +1,6 @@
 // The loop: steps up to the run's end, over registers that stay here.
 use super::Change;
-use super::ENTRY_BYTES;
+use predicate_trace::ENTRY_BYTES;
 use super::FIRST_OPERAND;
 use super::Place;
 use super::REGISTERS;

@@ -9,9 +9,9 @@ mod refusal;
 
 use little_endian::get_u8;
 use little_endian::get_u32;
-use predicate_semantics::CompiledMmioEvent;
+use predicate_answer::CompiledMmioEvent;
 use predicate_semantics::Rv32SymbolLayout;
-use riscv32imc_predicate::ENTRY_BYTES;
+use predicate_trace::ENTRY_BYTES;
 use riscv32imc_predicate::PredicateAnswer;
 use riscv32imc_predicate::PredicateRun;
 use test_support::end_line;

@@ -1,6 +1,6 @@
 // The number and the role of a refusal. To go once the type of refusals gives them itself.
-use lane_access::Role;
-use lane_access::Rv32Error;
+use predicate_answer::Role;
+use predicate_answer::Rv32Error;
 
 fn role_number(role: Role) -> u64 {
     match role {

@@ -3,7 +3,7 @@ use mathlib.Core.Path.{refl}
 use mathlib.Core.Logic.{inl}
 use mathlib.Core.List.{[]}
 use mathlib.Core.Option.{some}
-use Rattle.predicate_semantics.specs.Blank.{noExecution}
+use Rattle.predicate_answer.specs.Blank.{noExecution}
 use Rattle.lane_record.specs.Format.{accepted, refused}
 use Rattle.wrong_programs.specs.Inputs.{Input}
 use Rattle.wrong_programs.specs.Behaviours.{Observed, AllPossible}

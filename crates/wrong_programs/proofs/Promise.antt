@@ -6,11 +6,11 @@ use mathlib.Core.Option.{Option, none, some}
 use Prim.Native.Nat.{ℕ, _+_}
 use native.Mathlib.Omega.{arith}
 use Rattle.lane_word.specs.Word.{firstInput}
-use Rattle.predicate_semantics.specs.declared.PredicateControlStep.{PredicateControlStep}
-use Rattle.predicate_semantics.specs.declared.PredicateTransducerExecution.{PredicateTransducerExecution}
+use Rattle.predicate_trace.specs.declared.PredicateControlStep.{PredicateControlStep}
+use Rattle.predicate_answer.specs.declared.PredicateTransducerExecution.{PredicateTransducerExecution}
 use Rattle.predicate_semantics.specs.State.{Result}
-use Rattle.predicate_semantics.specs.Refusal.{Tested, passed}
-use Rattle.predicate_semantics.specs.Refusal as Refusal
+use Rattle.predicate_semantics.specs.Tested.{Tested, passed}
+use Rattle.predicate_semantics.specs.Tested as Tested
 use Rattle.predicate_semantics.specs.Scalar as Scalar
 use Rattle.predicate_semantics.specs.Standing.{standingScalarRun}
 use Rattle.predicate_semantics.specs.Standing as Standing
@@ -31,7 +31,7 @@ scalarFirst x = standingScalarRun (imageOf x) (symbolsOf x) firstInput (λ _. 0)
 -- what is accepted is a result
 result-of : (e : PredicateTransducerExecution) (n : ℕ) (t : Tested Result) → isAccepted (some (recordOf e n t)) ≡ true → (r : Result) × (t ≡ passed r)
 result-of e n (passed r) h = (r, refl)
-result-of e n (Refusal.refused q) h = absurd (true≢false (sym h))
+result-of e n (Tested.refused q) h = absurd (true≢false (sym h))
 
 accepted-result : (o : RunOutput) → isAccepted ((seenOfRun o) .recorded) ≡ true → (r : Result) × (resultIn (o .run) (o .trace) ≡ passed r)
 accepted-result o = result-of (o .run .execution) (o .run .steps) (resultIn (o .run) (o .trace))

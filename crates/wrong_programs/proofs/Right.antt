@@ -9,15 +9,15 @@ use lib.Dec.{leb}
 use lib.ListN.{length}
 use Rattle.predicate_semantics.specs.declared.Rv32SymbolLayout.{Rv32SymbolLayout}
 use Rattle.predicate_semantics.specs.State.{Result}
-use Rattle.predicate_semantics.specs.Refusal.{Tested, passed}
-use Rattle.predicate_semantics.specs.Refusal as Refusal
+use Rattle.predicate_semantics.specs.Tested.{Tested, passed}
+use Rattle.predicate_semantics.specs.Tested as Tested
 use Rattle.predicate_semantics.specs.Lane.{LaneState}
 use Rattle.lane_memory.specs.Rows.{rowCount}
 use Rattle.lane_record.specs.declared.WriteAnswer.{WriteAnswer}
 use Rattle.lane_record.specs.Format.{Record, encode}
 use Rattle.lane_record.specs.Answers.{Said, wrote, refuses, writeSaid, Writes}
 use Rattle.lane_record.specs.Runs.{recordIn}
-use Rattle.riscv32imc_predicate.specs.Tracking.{entryCount}
+use Rattle.predicate_trace.specs.Trace.{entryCount}
 use Rattle.riscv32imc_predicate.specs.Outcome.{executionIn}
 use Rattle.lane_library.specs.Inputs.{taken}
 use Rattle.lane_library.specs.Outcome.{imageRecord, imageTrace}
@@ -41,7 +41,7 @@ pub record Right (x : Input) (o : Observed) : Type 0 where
 record-in : (image : List ℕ) (symbols : Rv32SymbolLayout) (n entries : ℕ) (s : LaneState) (t : Tested Result)
     → recordOf (executionIn image symbols n entries s t) (s .steps) t ≡ recordIn image symbols n entries s t
 record-in image symbols n entries s (passed r) = refl
-record-in image symbols n entries s (Refusal.refused q) = refl
+record-in image symbols n entries s (Tested.refused q) = refl
 
 pub run-right : (x : Input) (o : RunOutput) → RunMeets x o → Right x (seenOfRun o)
 run-right x o h = record {

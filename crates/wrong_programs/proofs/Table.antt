@@ -18,12 +18,12 @@ use Rattle.predicate_semantics.specs.Meaning as Meaning
 use Rattle.predicate_semantics.specs.Program as Program
 use Rattle.predicate_semantics.specs.State as State
 use Rattle.predicate_semantics.specs.Memory as Memory
-use Rattle.predicate_semantics.specs.Refusal as Refusal
+use Rattle.predicate_semantics.specs.Tested as Tested
 use Rattle.predicate_semantics.specs.Lane as Lane
 use Rattle.predicate_semantics.specs.Standing as Standing
 use Rattle.predicate_semantics.specs.Cases as Cases
-use Rattle.predicate_semantics.specs.declared.PredicateControlStep.{PredicateControlStep}
-use Rattle.predicate_semantics.specs.declared.PredicateTransducerExecution.{PredicateTransducerExecution}
+use Rattle.predicate_trace.specs.declared.PredicateControlStep.{PredicateControlStep}
+use Rattle.predicate_answer.specs.declared.PredicateTransducerExecution.{PredicateTransducerExecution}
 use Rattle.lane_record.specs.Format.{Record}
 use Rattle.wrong_programs.specs.Inputs.{Input, returnsInput, returns1, returns0, jumpFirst, nopFirst, storesAtStop, storesBelow}
 use Rattle.wrong_programs.specs.Behaviours.{Observed, isAccepted, numbers, otherNumbers, noSpaceAtOnce, steps, Agree}
@@ -32,7 +32,7 @@ use Rattle.wrong_programs.proofs.Right.{Right, recordAt, Served, run-ri
 
 -- to unfold this is to unfold what its line names
 unfoldable pub runs : Unit {0}
-unfolding Bits.signExtend Expansion.expand Expansion.quadrant1 Expansion.cLi Expansion.place Expansion.cArithmetic Expansion.cOperations Expansion.quadrant2 Expansion.cRegisters Listing.listing Listing.operation Listing.fixed Rows.maskOf Rows.matchOf Rows.rowsFrom Rows.standingRows Rows.findRow Decode.operationOf Decode.decodeWith Decode.decodeOf Word.unknown Word.constant Word.domain Word.zip Word.unary Word.binary Word.every Word.inputs Choice.choose Meaning.meaning Program.initial Program.sized Program.inMemory Program.placed State.fill State.atStart State.assign State.recorded State.advance State.apply Memory.byteAt Memory.laneBytes Memory.put Memory.read Memory.write Refusal._>>=_ Refusal.refuse Refusal.require Refusal.found Lane.inside Lane.on Lane.lanes Lane.memoryOf Lane.agreed Lane.access Lane.accessAgreed Lane.fetchWord Lane.fetch Lane.reg Lane.operand Lane.execute Lane.look Lane.step Lane.events Lane.finish Lane.run Lane.begin Lane.start Lane.laneRun Lane.execution Lane.laneOperations Lane.writtenBytes Standing.expandedWord Standing.decodedOperation Standing.standingCore Standing.standing Standing.setup Standing.standingLaneRun Cases.symbols Cases.word Cases.half Cases.return1
+unfolding Bits.signExtend Expansion.expand Expansion.quadrant1 Expansion.cLi Expansion.place Expansion.cArithmetic Expansion.cOperations Expansion.quadrant2 Expansion.cRegisters Listing.listing Listing.operation Listing.fixed Rows.maskOf Rows.matchOf Rows.rowsFrom Rows.standingRows Rows.findRow Decode.operationOf Decode.decodeWith Decode.decodeOf Word.unknown Word.constant Word.domain Word.zip Word.unary Word.binary Word.every Word.inputs Choice.choose Meaning.meaning Program.initial Program.sized Program.inMemory Program.placed State.fill State.atStart State.assign State.recorded State.advance State.apply Memory.byteAt Memory.laneBytes Memory.put Memory.read Memory.write Tested._>>=_ Tested.refuse Tested.require Tested.found Lane.inside Lane.on Lane.lanes Lane.memoryOf Lane.agreed Lane.access Lane.accessAgreed Lane.fetchWord Lane.fetch Lane.reg Lane.operand Lane.execute Lane.look Lane.step Lane.events Lane.finish Lane.run Lane.begin Lane.start Lane.laneRun Lane.execution Lane.laneOperations Lane.writtenBytes Standing.expandedWord Standing.decodedOperation Standing.standingCore Standing.standing Standing.setup Standing.standingLaneRun Cases.symbols Cases.word Cases.half Cases.return1
 runs = tt
 
 abbrev written : Option Record → ℕ

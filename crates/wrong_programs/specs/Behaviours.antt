@@ -9,16 +9,16 @@ use lib.Dec.{eqb}
 use lib.ListN.{length, take, drop, replicate}
 use Rattle.riscv32imc.specs.Constants.{imageBase, maxSteps}
 use Rattle.lane_word.specs.Word.{firstInput, lanes}
-use Rattle.predicate_semantics.specs.declared.PredicateControlStep.{PredicateControlStep}
-use Rattle.predicate_semantics.specs.declared.PredicateTransducerExecution.{PredicateTransducerExecution}
+use Rattle.predicate_trace.specs.declared.PredicateControlStep.{PredicateControlStep}
+use Rattle.predicate_answer.specs.declared.PredicateTransducerExecution.{PredicateTransducerExecution}
 use Rattle.predicate_semantics.specs.State.{Result}
-use Rattle.predicate_semantics.specs.Refusal.{passed}
+use Rattle.predicate_semantics.specs.Tested.{passed}
 use Rattle.predicate_semantics.specs.Lane.{Ended, laneRun}
 use Rattle.predicate_semantics.specs.Standing.{standing}
-use Rattle.predicate_semantics.specs.Blank.{noExecution}
+use Rattle.predicate_answer.specs.Blank.{noExecution}
 use Rattle.lane_memory.specs.Rows.{rowCount}
 use Rattle.lane_record.specs.Format.{Record, accepted, refused}
-use Rattle.riscv32imc_predicate.specs.Tracking.{entryCount}
+use Rattle.predicate_trace.specs.Trace.{entryCount}
 use Rattle.wrong_programs.specs.Inputs.{Input, imageOf, symbolsOf}
 
 -- what is seen of a program at an input: the record, if there is one, and the lent trace afterwards

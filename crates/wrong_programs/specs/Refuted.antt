@@ -6,10 +6,10 @@ use mathlib.Core.Option.{Option, none, some}
 use Prim.Native.Nat.{ℕ, _≤_}
 use lib.ListN.{take}
 use Rattle.lane_word.specs.Word.{firstInput}
-use Rattle.predicate_semantics.specs.declared.PredicateTransducerExecution.{PredicateTransducerExecution}
+use Rattle.predicate_answer.specs.declared.PredicateTransducerExecution.{PredicateTransducerExecution}
 use Rattle.predicate_semantics.specs.State.{Result}
-use Rattle.predicate_semantics.specs.Refusal.{Tested, passed}
-use Rattle.predicate_semantics.specs.Refusal as Refusal
+use Rattle.predicate_semantics.specs.Tested.{Tested, passed}
+use Rattle.predicate_semantics.specs.Tested as Tested
 use Rattle.predicate_semantics.specs.Standing.{lastInput, standingScalarRun}
 use Rattle.lane_record.specs.declared.WriteAnswer.{WriteAnswer}
 use Rattle.lane_record.specs.Format.{Record, accepted, refused}
@@ -67,7 +67,7 @@ pub record RunOutput : Type 0 where
 -- the record of a result or a refusal, with the numbers and the completed steps beside it
 abbrev pub recordOf : PredicateTransducerExecution → ℕ → Tested Result → Record
 recordOf e n (passed r) = accepted e (r .events) (r .trace)
-recordOf e n (Refusal.refused q) = refused (record { number = q .number; role = q .role; steps = n })
+recordOf e n (Tested.refused q) = refused (record { number = q .number; role = q .role; steps = n })
 
 abbrev pub seenOfRun : RunOutput → Observed
 seenOfRun o = record {

@@ -3,7 +3,7 @@ use borrow.Author.Needs.{needs}
 use denote.Ref.{now}
 use Rattle.predicate_semantics.specs.Lane.{agreed}
 use Rattle.lane_access.specs.Seen.{seen}
-use Rattle.lane_access.specs.Answers.{roleOf}
+use Rattle.predicate_answer.specs.Refusal.{roleOf}
 use Rattle.lane_access.proofs.Loads.{loads, agreed-constant, accessed-word, agreed-inside, agreed-outside}
 use Rattle.lane_access.proofs.access_agreed.Statement.{statement}
 use Rattle.lane_access.proofs.access_agreed.Tie as tie

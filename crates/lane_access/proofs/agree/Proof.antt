@@ -1,7 +1,7 @@
 use mathlib.Core.Path.{sym, ap, _∙_}
 use borrow.Author.Needs.{needs}
 use Rattle.predicate_semantics.specs.Lane.{agreedAs}
-use Rattle.lane_access.specs.Answers.{roleOf}
+use Rattle.predicate_answer.specs.Refusal.{roleOf}
 use Rattle.lane_access.proofs.Loads.{agreed-is}
 use Rattle.lane_access.proofs.agree.Statement.{statement}
 use Rattle.lane_access.proofs.agree.Tie as tie

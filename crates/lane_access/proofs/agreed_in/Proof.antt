@@ -1,5 +1,5 @@
 use borrow.Author.Needs.{needs}
-use Rattle.predicate_semantics.specs.Refusal.{refuse}
+use Rattle.predicate_semantics.specs.Tested.{refuse}
 use Rattle.lane_access.proofs.agreed_in.Statement.{statement}
 use Rattle.lane_access.proofs.agreed_in.Tie as tie
 

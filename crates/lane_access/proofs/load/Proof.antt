@@ -1,7 +1,7 @@
 use mathlib.Core.Path.{sym, ap, _∙_}
 use native.Mathlib.Omega.{arith}
 use borrow.Author.Needs.{needs}
-use Rattle.predicate_semantics.specs.Refusal.{_>>=_}
+use Rattle.predicate_semantics.specs.Tested.{_>>=_}
 use Rattle.lane_access.specs.Answers.{verdictOf, toldLoad}
 use Rattle.lane_access.proofs.Loads.{inside-fits}
 use Rattle.lane_access.proofs.load.Statement.{statement}

@@ -1,5 +1,5 @@
 use borrow.Author.Tests.{le-leb, lt-leb}
-use Rattle.predicate_semantics.specs.Refusal.{_>>=_, refuse, require}
+use Rattle.predicate_semantics.specs.Tested.{_>>=_, refuse, require}
 use Rattle.predicate_semantics.specs.Lane.{inside}
 use borrow.Author.Needs.{needs}
 use Rattle.lane_access.proofs.range_of.Statement.{statement}

@@ -3,7 +3,7 @@ use Prim.Native.Nat.{_-_}
 use native.Mathlib.Omega.{arith}
 use lib.ListN.{drop}
 use borrow.Author.Needs.{needs}
-use Rattle.predicate_semantics.specs.Program.{maxEvents}
+use Rattle.predicate_answer.specs.Blank.{maxEvents}
 use Rattle.lane_exports.specs.Boundary.{eventWordsAt, eventsFrom}
 use Rattle.lane_exports.proofs.WordLaws.{Gathering, gathering-start, gathering-step, gathering-exit}
 use Rattle.lane_exports.proofs.from_words.events_from.Statement.{statement}

@@ -2,7 +2,7 @@ use Prim.Native.Nat.{_-_}
 use native.Mathlib.Omega.{arith}
 use lib.Seq.{sets}
 use borrow.Author.Needs.{needs}
-use Rattle.predicate_semantics.specs.Program.{maxEvents}
+use Rattle.predicate_answer.specs.Blank.{maxEvents}
 use Rattle.lane_exports.specs.Boundary.{eventWordsAt, eventWords}
 use Rattle.lane_exports.proofs.WordLaws.{Wording, wording-start, wording-step, wording-exit}
 use Rattle.lane_exports.proofs.words.put_events.Statement.{statement}

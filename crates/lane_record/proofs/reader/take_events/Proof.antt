@@ -4,7 +4,7 @@ use native.Mathlib.Omega.{arith}
 use lib.ListN.{drop}
 use lib.Seq.{sets}
 use borrow.Author.Needs.{needs}
-use Rattle.predicate_semantics.specs.Blank.{noEvents}
+use Rattle.predicate_answer.specs.Blank.{noEvents}
 use Rattle.lane_record.specs.Decode.{eventsAt}
 use Rattle.lane_record.proofs.LoopLaws.{Taking, taking-start, taking-step, taking-exit}
 use Rattle.lane_record.proofs.reader.take_events.Statement.{statement}

@@ -4,8 +4,8 @@ use native.Mathlib.Omega.{arith}
 use lib.ListN.{length, drop}
 use lib.Seq.{sets}
 use borrow.Author.Needs.{needs}
-use Rattle.predicate_semantics.specs.Trace.{traceBytes, stepsAt}
-use Rattle.predicate_semantics.proofs.TraceLaws.{entry-inside}
+use Rattle.predicate_trace.specs.Trace.{traceBytes, stepsAt}
+use Rattle.predicate_trace.proofs.TraceLaws.{entry-inside}
 use Rattle.lane_record.proofs.LoopLaws.{Moving, moving-step, moving-exit}
 use Rattle.lane_record.proofs.reader.take_steps.Statement.{statement}
 use Rattle.lane_record.proofs.reader.take_steps.Tie as tie

@@ -5,7 +5,7 @@ use lib.ListN.{drop}
 use borrow.Author.Needs.{needs}
 use borrow.Author.Tests.{not-true, not-false}
 use Rattle.predicate_semantics.specs.Program.{stop}
-use Rattle.predicate_semantics.specs.Trace.{stepsAt}
+use Rattle.predicate_trace.specs.Trace.{stepsAt}
 use Rattle.lane_record.specs.Rules.{linked}
 use Rattle.lane_record.proofs.LoopLaws.{Linking, linking-room, linking-left, linking-no, linking-step, linking-yes}
 use Rattle.lane_record.proofs.rules.steps_linked.Statement.{statement}

@@ -6,9 +6,9 @@ use native.Mathlib.Omega.{arith}
 use lib.ListN.{length}
 use lib.Seq.{sets}
 use borrow.Author.Needs.{needs}
-use Rattle.predicate_semantics.specs.Trace.{stepValues, stepsAt}
+use Rattle.predicate_trace.specs.Trace.{stepValues, stepsAt}
 use Rattle.lane_record.specs.Format.{step, kindByte, items}
-use Rattle.predicate_semantics.proofs.TraceLaws.{entry-inside}
+use Rattle.predicate_trace.proofs.TraceLaws.{entry-inside}
 use Rattle.lane_record.proofs.LoopLaws.{Moving, moving-step, moving-exit}
 use Rattle.lane_record.proofs.writer.put_steps.Statement.{statement}
 use Rattle.lane_record.proofs.writer.put_steps.Tie as tie

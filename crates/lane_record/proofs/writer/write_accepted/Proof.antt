@@ -10,7 +10,7 @@ use Rattle.lane_record.specs.Answers.{acceptedGiven, givenAccepted}
 use Rattle.lane_record.proofs.DecodeLaws.{steps-fit}
 use Rattle.lane_record.proofs.AnswerLaws.{writes-broken, writes-full, writes-done, given-out, given-in, Passed, passed, written}
 use Rattle.lane_record.proofs.writer.write_accepted.Statement.{statement}
-use Rattle.predicate_semantics.specs.Program.{maxEvents}
+use Rattle.predicate_answer.specs.Blank.{maxEvents}
 use Rattle.lane_record.proofs.writer.write_accepted.Tie as tie
 
 fitting : (c : tie.Start) → Fits (widths heading) (executionValues (c .args .e))

@@ -2,7 +2,7 @@ use mathlib.Core.Path.{sym, ap, _∙_}
 use Prim.Native.Nat.{ℕ}
 use borrow.Author.Needs.{needs}
 use Rattle.predicate_semantics.specs.State.{Effect}
-use Rattle.predicate_semantics.specs.Refusal.{Tested}
+use Rattle.predicate_semantics.specs.Tested.{Tested}
 use Rattle.predicate_semantics.specs.Lane.{execute}
 use Rattle.lane_word.specs.declared.LaneWord.{LaneWord}
 use Rattle.riscv32imc_predicate.specs.Changes.{lastTested}

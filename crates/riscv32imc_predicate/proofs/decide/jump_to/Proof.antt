@@ -1,7 +1,7 @@
 use native.Mathlib.Omega.{arith}
 use borrow.Author.Needs.{needs}
 use borrow.Author.Tests.{lt-ltb, le-ltb}
-use Rattle.predicate_semantics.specs.Refusal.{_>>=_, refuse, require}
+use Rattle.predicate_semantics.specs.Tested.{_>>=_, refuse, require}
 use Rattle.riscv32imc_predicate.proofs.decide.jump_to.Statement.{statement}
 use Rattle.riscv32imc_predicate.proofs.decide.jump_to.Tie as tie
 

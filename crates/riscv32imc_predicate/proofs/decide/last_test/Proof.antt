@@ -1,6 +1,6 @@
 use borrow.Author.Needs.{needs}
 use borrow.Author.Tests.{lt-ltb, le-ltb}
-use Rattle.predicate_semantics.specs.Refusal.{_>>=_, refuse, require}
+use Rattle.predicate_semantics.specs.Tested.{_>>=_, refuse, require}
 use Rattle.riscv32imc_predicate.specs.Changes.{decisionOf}
 use Rattle.riscv32imc_predicate.proofs.Following.{last-open}
 use Rattle.riscv32imc_predicate.proofs.decide.last_test.Statement.{statement}

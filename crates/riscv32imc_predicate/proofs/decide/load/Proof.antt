@@ -3,7 +3,7 @@ use borrow.Author.Needs.{needs}
 use denote.Ref.{now}
 use Rattle.lane_word.specs.Word.{lanes}
 use Rattle.lane_word.proofs.ToldLaws.{unary-constant}
-use Rattle.predicate_semantics.specs.Refusal.{_>>=_}
+use Rattle.predicate_semantics.specs.Tested.{_>>=_}
 use Rattle.lane_access.specs.Seen.{seen}
 use Rattle.lane_access.proofs.Laws.{access-inside, access-outside, loads}
 use Rattle.predicate_action.specs.Meaning.{extensionOf}

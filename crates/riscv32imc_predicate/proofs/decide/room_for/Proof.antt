@@ -3,7 +3,7 @@ use borrow.Author.Needs.{needs}
 use borrow.Author.Tests.{le-leb, lt-leb, not-true, not-false}
 use Prim.Native.Nat.{_+_}
 use Rattle.riscv32imc.specs.Constants.{imageBase}
-use Rattle.predicate_semantics.specs.Refusal.{_>>=_, refuse, require}
+use Rattle.predicate_semantics.specs.Tested.{_>>=_, refuse, require}
 use Rattle.predicate_semantics.specs.Lane.{roomFor}
 use Rattle.lane_access.proofs.Laws.{inside-fits}
 use Rattle.riscv32imc_predicate.proofs.Execution.{verdict-is}

@@ -1,5 +1,5 @@
 use borrow.Author.Needs.{needs}
-use Rattle.predicate_semantics.specs.Refusal.{_>>=_}
+use Rattle.predicate_semantics.specs.Tested.{_>>=_}
 use Rattle.riscv32imc_predicate.proofs.Execution.{verdict-is}
 use Rattle.riscv32imc_predicate.proofs.decide.store.Statement.{statement}
 use Rattle.riscv32imc_predicate.proofs.decide.store.Tie as tie

@@ -1,6 +1,6 @@
 use mathlib.Core.Path.{sym, ap, _∙_}
 use borrow.Author.Needs.{needs}
-use Rattle.predicate_semantics.specs.Refusal.{_>>=_}
+use Rattle.predicate_semantics.specs.Tested.{_>>=_}
 use Rattle.predicate_semantics.specs.Lane.{eventAt}
 use Rattle.lane_access.specs.Answers.{agreedOf}
 use Rattle.riscv32imc_predicate.proofs.finish.read_event.Statement.{statement}

@@ -5,13 +5,14 @@ use lib.ListN.{length}
 use denote.Ref.{now}
 use borrow.Author.Needs.{needs}
 use Rattle.predicate_semantics.specs.declared.Rv32SymbolLayout.{Rv32SymbolLayout}
-use Rattle.predicate_semantics.specs.Refusal.{passed}
+use Rattle.predicate_semantics.specs.Tested.{passed}
 use Rattle.predicate_semantics.specs.Lane.{begin, startTests}
 use Rattle.predicate_semantics.specs.Standing.{standing, setup}
 use Rattle.predicate_semantics.specs.Program.{stop, stopWord}
 use Rattle.lane_memory.specs.Rows.{rowCount, storeValues, cleared}
 use Rattle.lane_memory.proofs.Laws.{cleared-store-value}
-use Rattle.lane_access.specs.Answers.{verdictOf, refusalOf}
+use Rattle.lane_access.specs.Answers.{verdictOf}
+use Rattle.predicate_answer.specs.Refusal.{refusalOf}
 use Rattle.riscv32imc_predicate.specs.Tracking.{Call, called, program, space, firstState, Begins, Arrives}
 use Rattle.riscv32imc_predicate.proofs.Following.{sees}
 use Rattle.riscv32imc_predicate.proofs.Running.{run-refused-first, reports-refused, begins, runs-as, arrives, ended-refused, ended-arrived, counts, events-low}

@@ -2,7 +2,7 @@ use mathlib.Core.Path.{sym, _∙_}
 use borrow.Author.Needs.{needs}
 use borrow.Author.Tests.{le-leb, lt-leb, lt-ltb, eq-eqb}
 use Rattle.predicate_semantics.specs.Program.{sized}
-use Rattle.predicate_semantics.specs.Refusal.{_>>=_, refuse, require}
+use Rattle.predicate_semantics.specs.Tested.{_>>=_, refuse, require}
 use Rattle.predicate_semantics.specs.Lane.{startTests}
 use Rattle.riscv32imc_predicate.proofs.Running.{off, off-off, positive}
 use Rattle.riscv32imc_predicate.proofs.start.start_test.Statement.{statement}

@@ -4,10 +4,10 @@ use borrow.Author.Needs.{needs}
 use borrow.Author.Tests.{le-leb, lt-leb}
 use lib.ListN.{length}
 use Prim.Native.Nat.{_+_, _≤_, _<_}
-use Rattle.predicate_semantics.specs.Trace.{entryBytes, putEntry}
-use Rattle.predicate_semantics.proofs.Entry.{entry-put}
-use Rattle.predicate_semantics.proofs.put_entry.Statement.{statement}
-use Rattle.predicate_semantics.proofs.put_entry.Tie as tie
+use Rattle.predicate_trace.specs.Trace.{entryBytes, putEntry}
+use Rattle.predicate_trace.proofs.Entry.{entry-put}
+use Rattle.predicate_trace.proofs.put_entry.Statement.{statement}
+use Rattle.predicate_trace.proofs.put_entry.Tie as tie
 
 pub put-entry-spec : {M : Type 1} → statement M
 unfolding putEntry

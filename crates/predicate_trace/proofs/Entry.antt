@@ -7,8 +7,8 @@ use native.Mathlib.Omega.{arith}
 use lib.Seq.{sets}
 use Rattle.little_endian.specs.Number as number
 use Rattle.little_endian.specs.Pack.{pack}
-use Rattle.predicate_semantics.specs.declared.PredicateControlStep.{PredicateControlStep}
-use Rattle.predicate_semantics.specs.Trace.{stepWidths, stepValues}
+use Rattle.predicate_trace.specs.declared.PredicateControlStep.{PredicateControlStep}
+use Rattle.predicate_trace.specs.Trace.{stepWidths, stepValues}
 
 pub entry-put : (l : List ℕ) {l1 l2 l3 l4 : List ℕ} (i : ℕ) (s : PredicateControlStep)
     → l1 ≡ sets l i (number.bytes 4 (s .«program_counter»)) → l2 ≡ sets l1 (i + 4) (number.bytes 4 (s .«instruction_word»))

@@ -1,12 +1,8 @@
--- Who causes a refusal: what a part of the lane run gives, which is a value, or the refusal that ends the run.
+-- What a part of the lane run gives: a value, or the refusal that ends the run.
 use mathlib.Core.Bool.{Bool, true, false}
 use mathlib.Core.Option.{Option, none, some}
 use Prim.Native.Nat.{ℕ}
-
--- the number, 1 to 14, and the role, 1 to 10 for 6 and 7, else 0
-pub record Refusal : Type 0 where
-  pub number : ℕ
-  pub role : ℕ
+use Rattle.predicate_answer.specs.Refusal.{Refusal}
 
 -- a value that passed its tests, or a refusal
 pub data Tested (A : Type 0) : Type 0 where

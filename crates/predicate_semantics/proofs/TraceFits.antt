@@ -1,4 +1,4 @@
--- Control steps written as entries of a trace, and read again. Assumes nothing.
+-- The numbers of a run's trace fit their places. Assumes nothing.
 use mathlib.Core.Path.{_≡_, refl, ap, _∙_}
 use mathlib.Core.Logic.{⊎-elim}
 use mathlib.Core.List.{List, [], _∷_, map}
@@ -11,27 +11,13 @@ use Rattle.little_endian.specs.Pack.{pack, AllFit}
 use Rattle.little_endian.specs.Lent.{over}
 use Rattle.little_endian.proofs.PackLaws.{unpacks-packs}
 use Rattle.riscv32imc.specs.Constants.{maxSteps}
-use Rattle.predicate_semantics.specs.declared.PredicateControlStep.{PredicateControlStep}
+use Rattle.predicate_trace.specs.declared.PredicateControlStep.{PredicateControlStep}
 use Rattle.predicate_semantics.specs.declared.Rv32SymbolLayout.{Rv32SymbolLayout}
 use Rattle.predicate_semantics.specs.RecordRules.{Chain, Words, Completed}
 use Rattle.predicate_semantics.specs.Standing.{standing, setup, standingLaneRun}
-use Rattle.predicate_semantics.specs.Trace.{stepWidths, entryBytes, stepValues, stepOf, traceBytes, stepsAt, putEntry}
+use Rattle.predicate_trace.specs.Trace.{stepWidths, entryBytes, stepValues, stepOf, traceBytes, stepsAt, putEntry}
 use Rattle.predicate_semantics.proofs.RecordRules.{completed}
 use Rattle.predicate_semantics.proofs.ExpandedWords.{standing-expands-to-words}
-
-pub steps-values : (ss : List PredicateControlStep) → map stepOf (map stepValues ss) ≡ ss
-steps-values [] = refl
-steps-values (s ∷ ss) = ap (λ (r : List PredicateControlStep). s ∷ r) (steps-values ss)
-
-pub length-trace : (ss : List PredicateControlStep) → length (traceBytes ss) ≡ length ss * entryBytes
-length-trace [] = refl
-length-trace (s ∷ ss) = omega (arith, length-trace ss)
-
--- entries written over others and read again
-pub trace-back : (ss : List PredicateControlStep) (t : List ℕ) → AllFit stepWidths (map stepValues ss) → stepsAt 0 (length ss) (over (traceBytes ss) t) ≡ ss
-trace-back ss t f =
-    rw (← length-map ss stepValues)
-    (ap (map stepOf) (unpacks-packs [] stepWidths (map stepValues ss) (drop (length (traceBytes ss)) t) f) ∙ steps-values ss)
 
 -- the numbers of a chain of steps fit their places
 fits-chain : (from to : ℕ) (ss : List PredicateControlStep) → Chain from ss to → Words ss → AllFit stepWidths (map stepValues ss)
@@ -51,8 +37,3 @@ module _ (image : List ℕ) (symbols : Rv32SymbolLayout) (rows entries : ℕ) wh
   standing-trace-fits =
       fits-chain _ _ ((standingLaneRun image symbols rows entries) .state .trace)
       (standing-completed .chain) (standing-completed .words standing-expands-to-words)
-
--- an entry that lies inside is written
-pub entry-inside : (bs : List ℕ) (at : ℕ) (c : PredicateControlStep) → at + entryBytes ≤ length bs → putEntry bs at c ≡ sets bs at (pack stepWidths (stepValues c))
-unfolding putEntry
-entry-inside bs at c h = rw (le-leb _ _ h)

@@ -1,9 +1,13 @@
--- What stands where a result has nothing: zeros.
+-- How many events a run may leave, and the zeros that stand where a result has nothing.
 use mathlib.Core.List.{List}
+use Prim.Native.Nat.{ℕ}
 use lib.ListN.{replicate}
-use Rattle.predicate_semantics.specs.Program.{maxEvents}
-use Rattle.predicate_semantics.specs.declared.CompiledMmioEvent.{CompiledMmioEvent}
-use Rattle.predicate_semantics.specs.declared.PredicateTransducerExecution.{PredicateTransducerExecution}
+use Rattle.predicate_answer.specs.declared.CompiledMmioEvent.{CompiledMmioEvent}
+use Rattle.predicate_answer.specs.declared.PredicateTransducerExecution.{PredicateTransducerExecution}
+
+-- the most events that a run may leave
+abbrev pub maxEvents : ℕ
+maxEvents = 32
 
 abbrev pub noExecution : PredicateTransducerExecution
 noExecution =

@@ -1,12 +1,12 @@
 -- Record: a trace's bytes, an entry for each step, as the body of item 03.
 use mathlib.Core.Bool.{cond}
 use mathlib.Core.List.{List, [], _∷_, map}
-use Prim.Native.Nat.{ℕ, _+_}
+use Prim.Native.Nat.{ℕ, _+_, _/_}
 use lib.Dec.{leb}
 use lib.ListN.{getD, length}
 use lib.Seq.{sets}
 use Rattle.little_endian.specs.Pack.{total, pack, packs, unpacks}
-use Rattle.predicate_semantics.specs.declared.PredicateControlStep.{PredicateControlStep}
+use Rattle.predicate_trace.specs.declared.PredicateControlStep.{PredicateControlStep}
 
 -- program counter, word after expansion, length, next program counter
 abbrev pub stepWidths : List ℕ
@@ -15,6 +15,10 @@ stepWidths = 4 ∷ 4 ∷ 1 ∷ 4 ∷ []
 -- the bytes of an entry
 abbrev pub entryBytes : ℕ
 entryBytes = total stepWidths
+
+-- the whole entries of lent bytes
+abbrev pub entryCount : List ℕ → ℕ
+entryCount trace = length trace / entryBytes
 
 -- a step as its four numbers, and back
 abbrev pub stepValues : PredicateControlStep → List ℕ

@@ -1,0 +1,3 @@
+-- What a run answers.
+pub mod Refusal
+pub mod Blank

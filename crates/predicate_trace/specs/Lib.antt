@@ -1,0 +1,2 @@
+-- The bytes of a trace.
+pub mod Trace
