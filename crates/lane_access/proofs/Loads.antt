@@ -11,7 +11,7 @@ use lib.ListN.{length, getD, take, drop, length-drop}
 use lib.Seq.{drop-cons, length-take-le}
 use Rattle.little_endian.specs.Number.{value, AllBytes}
 use Rattle.little_endian.proofs.NumberLaws.{value-below, below-drop, below-take}
-use Rattle.riscv32imc.specs.Bits.{join}
+use Rattle.rv32_arithmetic.specs.Bits.{join}
 use Rattle.riscv32imc.specs.Constants.{imageBase}
 use Rattle.lane_word.specs.declared.LaneWord.{LaneWord}
 use Rattle.lane_word.specs.declared.Uniform.the-variants as uniform

@@ -22,7 +22,7 @@ use lane_word::Uniform;
 use riscv_decode::Decoded;
 use riscv_decode::Fetched;
 use riscv32imc::Expanded;
-use riscv32imc::arithmetic::join;
+use rv32_arithmetic::join;
 
 // The address past memory's end.
 pub const RV32_MEMORY_END: u32 = riscv32imc::RV32_IMAGE_BASE

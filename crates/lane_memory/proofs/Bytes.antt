@@ -5,7 +5,7 @@ use Prim.Native.Nat.{ℕ, suc, _/_, _%_, _^_}
 use native.Mathlib.Nat.{div-div-eq-div-mul, pow-succ'}
 use native.Mathlib.Omega.{arith}
 use lib.ListN.{length, length-map}
-use Rattle.riscv32imc.specs.Bits.{byteOf}
+use Rattle.rv32_arithmetic.specs.Bits.{byteOf}
 use Rattle.lane_word.specs.declared.LaneWord.{LaneWord}
 use Rattle.lane_word.specs.Word.{lanes, constant, unary}
 use Rattle.lane_word.proofs.ToldLaws.{unary-constant}

@@ -14,7 +14,7 @@ use lib.ListN.{length, getD, take, drop, replicate, length-set, length-append, l
 use lib.Seq.{drop-at, drop-set-lt, getD-set-same, getD-set-other}
 use Rattle.little_endian.specs.Number.{value, AllBytes}
 use Rattle.little_endian.proofs.NumberLaws.{below-take, below-drop}
-use Rattle.riscv32imc.specs.Bits.{byteOf, join}
+use Rattle.rv32_arithmetic.specs.Bits.{byteOf, join}
 use Rattle.lane_word.specs.declared.LaneWord.{LaneWord}
 use Rattle.lane_word.specs.declared.Told.the-variants.{Value, Lanes}
 use Rattle.lane_word.specs.Word.{lanes, constant, binary, zip}

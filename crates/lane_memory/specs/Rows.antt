@@ -8,7 +8,7 @@ use lib.Dec.{eqb}
 use lib.ListN.{length, getD, take, drop, set}
 use lib.Seq.{sets}
 use Rattle.little_endian.specs.Number.{value, bytes}
-use Rattle.riscv32imc.specs.Bits.{byteOf, join}
+use Rattle.rv32_arithmetic.specs.Bits.{byteOf, join}
 use Rattle.lane_word.specs.declared.LaneWord.{LaneWord}
 use Rattle.lane_word.specs.declared.Told.{Told}
 use Rattle.lane_word.specs.declared.Told.the-variants.{Value, Lanes}

@@ -5,15 +5,15 @@ ghost use mathlib.Core.List.{map};
 ghost use Prim.Native.Nat.{_+_, _*_, _<_, _≤_, _^_};
 ghost use lib.ListN.{length};
 ghost use lib.Seq.{sets};
-ghost use Rattle.riscv32imc.specs.Bits.{byteOf};
+ghost use Rattle.rv32_arithmetic.specs.Bits.{byteOf};
 ghost use Rattle.lane_word.specs.Word.{lanes, constant};
 ghost use Rattle.lane_memory.specs.LentRows.{headBytes, rowBytes, rowCount, cleared};
 ghost use Rattle.lane_memory.specs.Search.{probe, next, hop, onward, hops, tries};
 ghost use Rattle.lane_memory.specs.Rows.{held, rowOf, wordByte, headOf, laneRow, valueRow, writeRow, storeByte, storeValue, storeBytes, storeValues, rowAt, laneByte, rowByte, loadByte, joined, Joined, toldRow, toldByte, newAt, newBytes, unmarked};
 use lane_word::LaneWord;
 use lane_word::Told;
-use riscv32imc::arithmetic::byte_of;
-use riscv32imc::arithmetic::join;
+use rv32_arithmetic::byte_of;
+use rv32_arithmetic::join;
 
 // A row's head: a used mark, a known mark, a uniform mark, a zero, the address in 4 bytes.
 const HEAD_BYTES: usize = 8;

@@ -2,13 +2,13 @@
 ghost use mathlib.Core.Path.{_≡_};
 ghost use mathlib.Core.Bool.{_&&_};
 ghost use lib.ListN.{length};
-ghost use Rattle.riscv32imc.specs.Arithmetic.{add, sub, sll, srl, sra, slt, sltu, and, or, xor, mul, div, divu, rem, remu, beq, bne, bge, bgeu, target};
-ghost use Rattle.riscv32imc.specs.Bits.{signExtend};
-ghost use Rattle.riscv32imc.specs.Value.{valueOf};
+ghost use Rattle.rv32_arithmetic.specs.Arithmetic.{add, sub, sll, srl, sra, slt, sltu, and, or, xor, mul, div, divu, rem, remu, beq, bne, bge, bgeu, target};
+ghost use Rattle.rv32_arithmetic.specs.Bits.{signExtend};
+ghost use Rattle.rv32_arithmetic.specs.Value.{valueOf};
 ghost use Rattle.lane_word.specs.Word.{firstInput, lanes, unknown, constant, domain, inputs, zip, unary, binary, uniformOf};
 ghost use Rattle.lane_word.specs.Told.{wordOf, toldBy};
-use riscv32imc::arithmetic::Binary;
-use riscv32imc::arithmetic::value;
+use rv32_arithmetic::Binary;
+use rv32_arithmetic::value;
 
 // One flag serves all lanes: the flags of one word always agree.
 pub struct LaneWord {

@@ -1,8 +1,8 @@
 -- What each of the 44 operations does, from the manual (RV32I, M and Zifencei): a form that both runs carry out on their own values.
 use Prim.Native.Nat.{ℕ}
-use Rattle.riscv32imc.specs.declared.arithmetic.Binary.the-variants.{Add, Sub, Sll, Slt, Sltu, Xor, Srl, Sra, Or, And, Mul, Div, Divu, Rem, Remu, Eq, Ne, Ge, Geu}
-use Rattle.riscv32imc.specs.Arithmetic.{add}
-use Rattle.riscv32imc.specs.Bits.{signExtend}
+use Rattle.rv32_arithmetic.specs.declared.Binary.the-variants.{Add, Sub, Sll, Slt, Sltu, Xor, Srl, Sra, Or, And, Mul, Div, Divu, Rem, Remu, Eq, Ne, Ge, Geu}
+use Rattle.rv32_arithmetic.specs.Arithmetic.{add}
+use Rattle.rv32_arithmetic.specs.Bits.{signExtend}
 use Rattle.riscv_decode.specs.declared.Operation.{Operation}
 use Rattle.riscv_decode.specs.declared.Operation.the-variants as operation
 use Rattle.predicate_action.specs.declared.Extension.{Extension}

@@ -1,9 +1,9 @@
 -- What an action reads: its sources, and the lane word that it computes of them, which is its result or what is tested of it.
 use mathlib.Core.Bool.{true, false, cond}
 use Prim.Native.Nat.{ℕ}
-use Rattle.riscv32imc.specs.declared.arithmetic.Binary.{Binary}
-use Rattle.riscv32imc.specs.declared.arithmetic.Binary.the-variants.{Add, Target}
-use Rattle.riscv32imc.specs.Value.{valueOf}
+use Rattle.rv32_arithmetic.specs.declared.Binary.{Binary}
+use Rattle.rv32_arithmetic.specs.declared.Binary.the-variants.{Add, Target}
+use Rattle.rv32_arithmetic.specs.Value.{valueOf}
 use Rattle.lane_word.specs.declared.LaneWord.{LaneWord}
 use Rattle.lane_word.specs.Word.{lanes, constant, binary}
 use Rattle.predicate_action.specs.declared.Action.{Action}

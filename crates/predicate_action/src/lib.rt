@@ -1,6 +1,6 @@
 // What an operation does at a program counter, as one of nine forms, and what a form reads.
 ghost use mathlib.Core.Path.{_≡_};
-ghost use Rattle.riscv32imc.specs.Arithmetic.{add};
+ghost use Rattle.rv32_arithmetic.specs.Arithmetic.{add};
 ghost use Rattle.predicate_action.specs.Meaning.{meaning};
 ghost use Rattle.predicate_action.specs.Reading.{ofSources, withNumber, readingOf};
 use riscv_decode::BType;
@@ -9,8 +9,8 @@ use riscv_decode::Operation;
 use riscv_decode::RType;
 use riscv_decode::SType;
 use riscv_decode::ShiftType;
-use riscv32imc::arithmetic::Binary;
-use riscv32imc::arithmetic::rv32_add;
+use rv32_arithmetic::Binary;
+use rv32_arithmetic::rv32_add;
 
 // How a load fills the word.
 pub enum Extension {

@@ -6,7 +6,7 @@ use Prim.Native.Nat.{ℕ, zero, suc, _+_, _≤_, _<_}
 use native.Mathlib.Omega.{arith}
 use lib.ListN.{length}
 use borrow.Author.Tests.{lt-ltb, le-leb, eq-eqb}
-use Rattle.riscv32imc.specs.Arithmetic.{add}
+use Rattle.rv32_arithmetic.specs.Arithmetic.{add}
 use Rattle.riscv32imc.specs.Constants.{imageBase}
 use Rattle.riscv_decode.specs.declared.Fetched.{Fetched}
 use Rattle.riscv_decode.specs.declared.Operation.the-variants.{Jal}

@@ -1,5 +1,5 @@
 -- What a proof by computation opens: to unfold one of these is to unfold what its line names.
-use Rattle.riscv32imc.specs.Bits as Bits
+use Rattle.rv32_arithmetic.specs.Bits as Bits
 use Rattle.riscv32imc.specs.Expansion as Expansion
 use Rattle.riscv_decode.specs.Listing as Listing
 use Rattle.riscv_decode.specs.Rows as Rows

@@ -7,7 +7,7 @@ use native.Mathlib.Omega.{arith}
 use lib.Dec.{eqb, ltb}
 use Rattle.riscv32imc.specs.declared.compressed.Expanded.{Expanded}
 use Rattle.riscv32imc.specs.declared.compressed.Expanded.the-variants.{Word, Refused}
-use Rattle.riscv32imc.specs.Bits.{slice}
+use Rattle.rv32_arithmetic.specs.Bits.{slice}
 use Rattle.riscv32imc.specs.Expansion.{funct3, rd, rs2, addi4spnImm, addi16spImm, luiImm, cAddi4spn, quadrant0, cLi, cAddi16sp, cLui, cShift, cOperations, cArithmetic, quadrant1, cSlli, cLwsp, cRegisters, quadrant2, expand}
 use Rattle.predicate_semantics.specs.Standing.{expandedWord, standingCore}
 use Rattle.predicate_semantics.specs.RecordRules.{ExpandsToWords}

@@ -10,8 +10,8 @@ use lib.Dec.{T, leb, ltb, eqb, leb→le, ltb→lt, eqb→eq}
 use lib.ListN.{getD, length, length-append}
 use borrow.Author.Tests.{eqb-true, eqb-false}
 use Rattle.riscv32imc.specs.Constants.{imageBase, maxImageBytes, maxMemoryBytes, maxSteps}
-use Rattle.riscv32imc.specs.Arithmetic.{target}
-use Rattle.riscv32imc.specs.Bits.{join}
+use Rattle.rv32_arithmetic.specs.Arithmetic.{target}
+use Rattle.rv32_arithmetic.specs.Bits.{join}
 use Rattle.riscv_decode.specs.declared.Fetched.{Fetched}
 use Rattle.riscv_decode.specs.declared.Operation.{Operation}
 use Rattle.lane_word.specs.declared.LaneWord.{LaneWord}

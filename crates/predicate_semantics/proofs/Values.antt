@@ -7,7 +7,7 @@ use Prim.Native.Nat.{ℕ, zero, suc, _/_, _%_}
 use lib.Dec.{T, eqb}
 use lib.ListN.{getElem?, getD, length, set, length-map, length-replicate}
 use borrow.Author.Tests.{eqb-true, eqb-false}
-use Rattle.riscv32imc.specs.Bits.{join}
+use Rattle.rv32_arithmetic.specs.Bits.{join}
 use Rattle.lane_word.specs.declared.LaneWord.{LaneWord}
 use Rattle.lane_word.specs.declared.Uniform.the-variants.{Value, Unknown, Uneven}
 use Rattle.lane_word.specs.Word.{unknown, constant, domain, unary, binary, every, uniformOf}

@@ -8,7 +8,7 @@ use native.Mathlib.Omega.{arith}
 use lib.Dec.{eqb, ltb}
 use lib.ListN.{length}
 use borrow.Author.Tests.{eqb-true, eqb-false, ltb-true, ltb-false, lt-ltb, le-ltb}
-use Rattle.riscv32imc.specs.Arithmetic.{flag}
+use Rattle.rv32_arithmetic.specs.Arithmetic.{flag}
 use Rattle.lane_word.specs.declared.LaneWord.{LaneWord}
 use Rattle.predicate_semantics.specs.Choice.{choose}
 use Rattle.predicate_semantics.specs.Memory.{Written, put, write}

@@ -5,10 +5,10 @@ use mathlib.Core.List.{List, [], _∷_, _++_}
 use Prim.Native.Nat.{ℕ, zero, suc, _+_, _*_, _/_, _%_}
 use lib.Dec.{leb, ltb, eqb}
 use lib.ListN.{getD, length}
-use Rattle.riscv32imc.specs.Arithmetic.{add, target}
-use Rattle.riscv32imc.specs.Bits.{join}
+use Rattle.rv32_arithmetic.specs.Arithmetic.{add, target}
+use Rattle.rv32_arithmetic.specs.Bits.{join}
 use Rattle.riscv32imc.specs.Constants.{imageBase}
-use Rattle.riscv32imc.specs.Value.{valueOf}
+use Rattle.rv32_arithmetic.specs.Value.{valueOf}
 use Rattle.riscv_decode.specs.declared.Fetched.{Fetched}
 use Rattle.predicate_action.specs.declared.Action.{Action}
 use Rattle.predicate_action.specs.declared.Action.the-variants.{Nothing, Literal, Compute, ComputeImmediate, Jump, JumpTo, Branch, Load, Store}

@@ -1,7 +1,7 @@
 -- The halfwords of document 01's images (C.LI, C.JR, C.XOR, C.MV) and the words they expand to. Assumes nothing.
 use mathlib.Core.List.{[], _∷_, map}
 use mathlib.Core.Path.{_≡_, refl}
-use Rattle.riscv32imc.specs.Bits.{signExtend}
+use Rattle.rv32_arithmetic.specs.Bits.{signExtend}
 use Rattle.riscv32imc.specs.Expansion.{place, cLi, cOperations, cArithmetic, quadrant1, cRegisters, quadrant2, expand}
 use Rattle.riscv32imc.specs.declared.compressed.Expanded.the-variants.{Word}
 

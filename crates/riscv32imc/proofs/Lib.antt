@@ -1,7 +1,2 @@
--- Laws that the proofs of several functions cite, the corner cases of the arithmetic and the worked examples of expansion.
-pub mod Power
-pub mod Product
-pub mod Signed
-pub mod Bytes
-pub mod Corners
+-- The worked examples of expansion.
 pub mod Examples

@@ -2,7 +2,7 @@
 use mathlib.Core.Bool.{cond}
 use Prim.Native.Nat.{ℕ, _+_, _*_, _%_, _^_}
 use lib.Dec.{eqb, ltb}
-use Rattle.riscv32imc.specs.Bits.{slice, signExtend}
+use Rattle.rv32_arithmetic.specs.Bits.{slice, signExtend}
 use Rattle.riscv32imc.specs.Formats.{encodeI, encodeR, encodeS, encodeB, encodeU, encodeJ}
 use Rattle.riscv32imc.specs.declared.compressed.Expanded.{Expanded}
 use Rattle.riscv32imc.specs.declared.compressed.Expanded.the-variants.{Word, Refused}

@@ -1,7 +1,4 @@
--- The instruction set's numbers: what the functions of this crate are equated with.
+-- The limits of memory, the instruction formats, and what a halfword expands to.
 pub mod Constants
-pub mod Bits
-pub mod Arithmetic
-pub mod Value
 pub mod Formats
 pub mod Expansion

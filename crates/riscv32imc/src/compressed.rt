@@ -5,7 +5,7 @@ use crate::encode::encode_j;
 use crate::encode::encode_r;
 use crate::encode::encode_s;
 use crate::encode::encode_u;
-use crate::fields::sign_extend;
+use rv32_arithmetic::sign_extend;
 ghost use mathlib.Core.Bool.{cond};
 ghost use mathlib.Core.Path.{_≡_};
 ghost use Prim.Native.Nat.{_+_, _^_, _<_, _≤_};

@@ -1,8 +1,6 @@
-// The numbers of the instruction set, ported from riscv32imc.rs.
-pub mod arithmetic;
+// The expansion of compressed instructions and the limits of memory, ported from riscv32imc.rs.
 mod compressed;
 mod encode;
-pub mod fields;
 
 pub use compressed::Expanded;
 pub use compressed::decompress;

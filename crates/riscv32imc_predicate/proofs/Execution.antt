@@ -6,7 +6,7 @@ use native.Mathlib.Omega.{arith}
 use lib.Dec.{eqb, leb, ltb}
 use lib.ListN.{length}
 use Rattle.lane_word.specs.Word as Word
-use Rattle.riscv32imc.specs.Arithmetic.{add, target}
+use Rattle.rv32_arithmetic.specs.Arithmetic.{add, target}
 use Rattle.riscv32imc.specs.Constants.{imageBase}
 use Rattle.lane_word.specs.declared.LaneWord.{LaneWord}
 use Rattle.lane_word.specs.declared.Uniform.{Uniform}
@@ -17,8 +17,8 @@ use Rattle.predicate_semantics.specs.Choice.{choose}
 use Rattle.predicate_action.specs.declared.Action.the-variants as action
 use Rattle.predicate_action.specs.declared.Extension.{Extension}
 use Rattle.predicate_action.specs.Meaning.{extensionOf}
-use Rattle.riscv32imc.specs.declared.arithmetic.Binary.{Binary}
-use Rattle.riscv32imc.specs.Value.{valueOf}
+use Rattle.rv32_arithmetic.specs.declared.Binary.{Binary}
+use Rattle.rv32_arithmetic.specs.Value.{valueOf}
 use Rattle.predicate_semantics.specs.Program.{Program, imageEnd}
 use Rattle.predicate_semantics.specs.State.{Effect, goes, sets, stores}
 use Rattle.predicate_semantics.specs.Memory.{write}

@@ -10,7 +10,7 @@ use lib.ListN.{length}
 use borrow.Author.Tests.{lt-ltb, ltb-true}
 use Rattle.lane_word.specs.Word as Word
 use Rattle.little_endian.specs.Lent.{over}
-use Rattle.riscv32imc.specs.Arithmetic.{mul}
+use Rattle.rv32_arithmetic.specs.Arithmetic.{mul}
 use Rattle.riscv32imc.specs.Constants.{imageBase, maxImageBytes, maxSteps}
 use Rattle.lane_word.specs.declared.LaneWord.{LaneWord}
 use Rattle.lane_word.specs.Word.{constant, inputs}

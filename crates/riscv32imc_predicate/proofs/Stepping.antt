@@ -11,7 +11,7 @@ use lib.ListN.{length}
 use lib.Seq.{sets as put}
 use Rattle.little_endian.specs.Pack.{pack}
 use Rattle.little_endian.specs.Lent.{over}
-use Rattle.riscv32imc.specs.Arithmetic.{add}
+use Rattle.rv32_arithmetic.specs.Arithmetic.{add}
 use Rattle.riscv32imc.specs.Constants.{imageBase, maxSteps, maxMemoryBytes}
 use Rattle.riscv_decode.specs.declared.Fetched.{Fetched}
 use Rattle.lane_word.specs.declared.LaneWord.{LaneWord}

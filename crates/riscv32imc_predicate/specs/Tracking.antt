@@ -7,7 +7,7 @@ use Prim.Native.Nat.{ℕ, suc, _+_, _-_, _*_, _%_, _^_, _≤_, _<_}
 use lib.Dec.{eqb}
 use lib.ListN.{length, take, replicate}
 use Rattle.little_endian.specs.Lent.{over}
-use Rattle.riscv32imc.specs.Arithmetic.{add}
+use Rattle.rv32_arithmetic.specs.Arithmetic.{add}
 use Rattle.riscv32imc.specs.Constants.{imageBase, maxSteps}
 use Rattle.riscv_decode.specs.declared.Fetched.{Fetched}
 use Rattle.lane_word.specs.declared.LaneWord.{LaneWord}

@@ -10,7 +10,7 @@ use super::ready::ended;
 use super::ready::ready;
 use predicate_trace::PredicateControlStep;
 use predicate_trace::put_entry;
-use riscv32imc::arithmetic::rv32_add;
+use rv32_arithmetic::rv32_add;
 ghost use mathlib.Core.Path.{_≡_};
 ghost use Rattle.riscv32imc_predicate.specs.Tracking.{movedTo, Added, Located, Completes, Follows};
 

@@ -54,7 +54,7 @@ fn answered(place: Place, recorded: Recorded, finished: Finished) -> PredicateRu
                 lane_count: LaneWord::LANES as u16,
                 return_value: finished.return_value,
                 symbolic_transitions: place.steps,
-                lane_value_operations: riscv32imc::arithmetic::rv32_mul(LANE_COUNT, place.steps),
+                lane_value_operations: rv32_arithmetic::rv32_mul(LANE_COUNT, place.steps),
                 sparse_memory_bytes: place.written,
                 event_count: (recorded.count % 256) as u8,
             },

@@ -1,6 +1,6 @@
 -- The operands of a word in each of the manual's formats ("Base Instruction Formats", "Immediate Encoding Variants").
 use Prim.Native.Nat.{ℕ, _+_, _*_, _^_}
-use Rattle.riscv32imc.specs.Bits.{slice, signExtend}
+use Rattle.rv32_arithmetic.specs.Bits.{slice, signExtend}
 use Rattle.riscv_decode.specs.declared.UType.{UType}
 use Rattle.riscv_decode.specs.declared.JType.{JType}
 use Rattle.riscv_decode.specs.declared.IType.{IType}

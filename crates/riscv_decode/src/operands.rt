@@ -8,7 +8,7 @@ use crate::RType;
 use crate::SType;
 use crate::ShiftType;
 use crate::UType;
-use riscv32imc::fields::sign_extend;
+use rv32_arithmetic::sign_extend;
 
 pub fn u_type(word: u32) -> UType
     ensures { λ r. ⌜ r ≡ uType word ⌝ }

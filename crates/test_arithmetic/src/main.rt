@@ -9,8 +9,8 @@
 ghost use Prim.Native.Nat.{_+_, _*_, _<_, _≤_};
 ghost use lib.ListN.{length};
 use lane_word::LaneWord;
-use riscv32imc::arithmetic::Binary;
-use riscv32imc::arithmetic::value;
+use rv32_arithmetic::Binary;
+use rv32_arithmetic::value;
 use test_support::differs;
 use test_support::end_line;
 use test_support::say;

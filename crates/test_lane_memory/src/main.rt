@@ -6,7 +6,7 @@ ghost use lib.ListN.{length};
 use lane_memory::Found;
 use lane_word::LaneWord;
 use lane_word::Uniform;
-use riscv32imc::arithmetic::Binary;
+use rv32_arithmetic::Binary;
 
 // What lent memory holds before a case, and its remainder after it.
 const BEFORE: u32 = 0xa5;

@@ -7,7 +7,7 @@ use mathlib.Core.List.{List}
 use Prim.Native.Nat.{ℕ, _<_}
 use native.Mathlib.Omega.{arith}
 use lib.ListN.{getD}
-use Rattle.riscv32imc.specs.Bits as Bits
+use Rattle.rv32_arithmetic.specs.Bits as Bits
 use Rattle.riscv32imc.specs.Expansion as Expansion
 use Rattle.riscv_decode.specs.Listing as Listing
 use Rattle.riscv_decode.specs.Rows as Rows

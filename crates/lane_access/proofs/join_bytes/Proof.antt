@@ -5,7 +5,7 @@ use native.Mathlib.Omega.{arith}
 use borrow.Author.Needs.{needs}
 use denote.Ref.{now}
 use lib.ListN.{length}
-use Rattle.riscv32imc.specs.Bits.{join}
+use Rattle.rv32_arithmetic.specs.Bits.{join}
 use Rattle.lane_word.specs.Word.{constant, binary, lanes}
 use Rattle.predicate_semantics.specs.Memory.{read}
 use Rattle.lane_memory.proofs.Laws.{joined-word}

@@ -4,7 +4,7 @@ use native.Mathlib.Omega.{arith}
 use borrow.Author.Needs.{needs}
 use denote.Ref.{now}
 use lib.ListN.{take, drop}
-use Rattle.riscv32imc.specs.Bits.{join}
+use Rattle.rv32_arithmetic.specs.Bits.{join}
 use Rattle.lane_word.specs.Word.{lanes}
 use Rattle.lane_memory.specs.LentRows.{headBytes}
 use Rattle.lane_memory.specs.Rows.{rowAt, laneByte}

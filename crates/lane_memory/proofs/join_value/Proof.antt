@@ -3,7 +3,7 @@ use Prim.Native.Nat.{_-_}
 use borrow.Author.Needs.{needs}
 use denote.Ref.{now}
 use lib.ListN.{replicate, length-replicate, getD-replicate}
-use Rattle.riscv32imc.specs.Bits.{join}
+use Rattle.rv32_arithmetic.specs.Bits.{join}
 use Rattle.lane_word.specs.Word.{lanes, constant}
 use Rattle.lane_memory.proofs.Laws.{joined-all, joined-none}
 use Rattle.lane_word.proofs.Tab.{Zipping, zip-start, zip-step, zip-exit}

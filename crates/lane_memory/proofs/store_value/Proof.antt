@@ -1,6 +1,6 @@
 use Prim.Native.Nat.{_-_}
 use borrow.Author.Needs.{needs}
-use Rattle.riscv32imc.specs.Bits.{byteOf}
+use Rattle.rv32_arithmetic.specs.Bits.{byteOf}
 use Rattle.lane_memory.specs.Rows.{valueRow, storeValues}
 use Rattle.lane_memory.proofs.Loops.{Storing, store-start, store-step, store-exit}
 use Rattle.lane_memory.proofs.store_value.Statement.{statement}

@@ -3,7 +3,7 @@ use mathlib.Core.Path.{_≡_, _∙_, refl, sym}
 use Prim.Native.Nat.{_-_}
 use borrow.Author.Needs.{needs}
 use lib.ListN.{length, length-map, List·getD-map}
-use Rattle.riscv32imc.specs.Bits.{byteOf}
+use Rattle.rv32_arithmetic.specs.Bits.{byteOf}
 use Rattle.lane_word.specs.Word.{lanes}
 use Rattle.lane_memory.proofs.Loops.{Setting, set-start, set-step, set-exit}
 use Rattle.lane_memory.proofs.write_lanes.Statement.{statement}

@@ -2,7 +2,7 @@ use mathlib.Core.Path.{refl}
 use Prim.Native.Nat.{_-_}
 use native.Mathlib.Omega.{arith}
 use borrow.Author.Needs.{needs}
-use Rattle.riscv32imc.specs.Value.{valueOf}
+use Rattle.rv32_arithmetic.specs.Value.{valueOf}
 use Rattle.lane_word.specs.Word.{lanes}
 use Rattle.lane_word.proofs.Tab.{Zipping, zip-start, zip-step, zip-exit}
 use Rattle.lane_word.proofs.zip_values.Statement.{statement}

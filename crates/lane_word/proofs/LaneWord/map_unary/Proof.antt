@@ -1,7 +1,7 @@
 use Prim.Native.Nat.{_-_}
 use borrow.Author.Needs.{needs}
 use lib.ListN.{getD}
-use Rattle.riscv32imc.specs.Value.{valueOf}
+use Rattle.rv32_arithmetic.specs.Value.{valueOf}
 use Rattle.lane_word.specs.Word.{lanes, unary}
 use Rattle.lane_word.proofs.Tab.{Tab, tab-start, tab-step, tab-map}
 use Rattle.lane_word.proofs.LaneWord.map_unary.Statement.{statement}

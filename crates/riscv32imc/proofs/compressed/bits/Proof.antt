@@ -5,7 +5,7 @@ use native.Mathlib.Omega.{arith}
 use borrow.Author.Needs.{needs}
 use lib.Pow.{pow-mono, shl-lt, shl-exact}
 use Rattle.riscv32imc.specs.Expansion.{place}
-use Rattle.riscv32imc.proofs.Power.{power}
+use Rattle.rv32_arithmetic.proofs.Power.{power}
 use Rattle.riscv32imc.proofs.compressed.bits.Statement.{statement}
 use Rattle.riscv32imc.proofs.compressed.bits.Tie as tie
 

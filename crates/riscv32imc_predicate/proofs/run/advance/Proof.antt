@@ -6,7 +6,7 @@ use native.Mathlib.Omega.{arith}
 use lib.ListN.{getD, set}
 use denote.Ref.{now}
 use borrow.Author.Needs.{needs}
-use Rattle.riscv32imc.specs.Value.{valueOf}
+use Rattle.rv32_arithmetic.specs.Value.{valueOf}
 use Rattle.lane_word.specs.declared.LaneWord.{LaneWord}
 use Rattle.lane_word.specs.declared.Told.{Told}
 use Rattle.lane_word.specs.declared.Told.the-variants.{Value, Lanes}

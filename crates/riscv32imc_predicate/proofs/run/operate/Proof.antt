@@ -1,7 +1,7 @@
 use mathlib.Core.Path.{_≡_, sym, ap, _∙_}
 use borrow.Author.Needs.{needs}
-use Rattle.riscv32imc.specs.declared.arithmetic.Binary.{Binary}
-use Rattle.riscv32imc.specs.Value.{valueOf}
+use Rattle.rv32_arithmetic.specs.declared.Binary.{Binary}
+use Rattle.rv32_arithmetic.specs.Value.{valueOf}
 use Rattle.lane_word.specs.declared.LaneWord.{LaneWord}
 use Rattle.lane_word.specs.Word.{binary}
 use Rattle.riscv32imc_predicate.proofs.run.operate.Statement.{statement}

@@ -1,0 +1,12 @@
+use borrow.Author.Needs.{needs}
+use borrow.Author.Tests.{eq-eqb, ne-eqb}
+use Rattle.rv32_arithmetic.proofs.rv32_divu.Statement.{statement}
+use Rattle.rv32_arithmetic.proofs.rv32_divu.Tie as tie
+
+pub rv32-divu-spec : {M : Type 1} → statement M
+rv32-divu-spec =
+    tie.close
+    (tie.spec
+    (λ c. rw (eq-eqb _ _ (c .if1 .taken)))
+    (λ c. search needs)
+    (λ c. rw (ne-eqb _ _ (c .if1 .left))))
