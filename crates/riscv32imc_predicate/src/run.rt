@@ -1,6 +1,5 @@
 // The loop: steps up to the run's end, over registers that stay here.
 use super::Change;
-use predicate_trace::ENTRY_BYTES;
 use super::FIRST_OPERAND;
 use super::Place;
 use super::REGISTERS;
@@ -24,6 +23,7 @@ use lane_word::told_by;
 use predicate_action::Extension;
 use predicate_action::Reading;
 use predicate_semantics::Rv32SymbolLayout;
+use predicate_trace::ENTRY_BYTES;
 use rv32_arithmetic::Binary;
 ghost use mathlib.Core.Path.{_≡_};
 ghost use lib.ListN.{length};
@@ -53,33 +53,34 @@ fn place_of(told: Told, register: usize, own: usize) -> usize
     }
 }
 
-// An operation's method. The last are bytes' operations, which no instruction computes.
+// An operation's method; each arm returns, which spares a copy of the word. The last are bytes' operations, which no instruction computes.
 fn operate(function: Binary, one: LaneWord, other: LaneWord) -> LaneWord
     ensures { λ r. ⌜ r ≡ binary (valueOf function) one other ⌝ }
 {
     match function {
-        Binary::Add => one.add(other),
-        Binary::Sub => one.sub(other),
-        Binary::Sll => one.sll(other),
-        Binary::Slt => one.slt(other),
-        Binary::Sltu => one.sltu(other),
-        Binary::Xor => one.xor(other),
-        Binary::Srl => one.srl(other),
-        Binary::Sra => one.sra(other),
-        Binary::Or => one.or(other),
-        Binary::And => one.and(other),
-        Binary::Mul => one.mul(other),
-        Binary::Div => one.div(other),
-        Binary::Divu => one.divu(other),
-        Binary::Rem => one.rem(other),
-        Binary::Remu => one.remu(other),
-        Binary::Eq => one.eq(other),
-        Binary::Ne => one.ne(other),
-        Binary::Ge => one.ge(other),
-        Binary::Geu => one.geu(other),
-        Binary::Target => one.jump_target(other),
-        _ => one.map_binary(other, function),
+        Binary::Add => return one.add(other),
+        Binary::Sub => return one.sub(other),
+        Binary::Sll => return one.sll(other),
+        Binary::Slt => return one.slt(other),
+        Binary::Sltu => return one.sltu(other),
+        Binary::Xor => return one.xor(other),
+        Binary::Srl => return one.srl(other),
+        Binary::Sra => return one.sra(other),
+        Binary::Or => return one.or(other),
+        Binary::And => return one.and(other),
+        Binary::Mul => return one.mul(other),
+        Binary::Div => return one.div(other),
+        Binary::Divu => return one.divu(other),
+        Binary::Rem => return one.rem(other),
+        Binary::Remu => return one.remu(other),
+        Binary::Eq => return one.eq(other),
+        Binary::Ne => return one.ne(other),
+        Binary::Ge => return one.ge(other),
+        Binary::Geu => return one.geu(other),
+        Binary::Target => return one.jump_target(other),
+        _ => {}
     }
+    one.map_binary(other, function)
 }
 
 // Where a register is set; what is set in x0 is read by none.
@@ -179,9 +180,7 @@ pub fn advance(
                 }
                 let a = place_of(left, rs1, FIRST_OPERAND);
                 let b = place_of(right, rs2, SECOND_OPERAND);
-                let one = registers.words[a];
-                let other = registers.words[b];
-                computed = operate(function, one, other);
+                computed = operate(function, registers.words[a], registers.words[b]);
                 tested = tell(computed.known, &computed.values);
             }
         }
