@@ -1,4 +1,4 @@
--- The 32-bit words of the instruction set: what the decoder is equated with.
+-- To believe: the 32-bit words of the instruction set: what the decoder is equated with.
 pub mod Operands
 pub mod Listing
 pub mod Rows

@@ -1,4 +1,4 @@
-// The operation of a number, format by format.
+// The operation of a number.
 ghost use mathlib.Core.Path.{_≡_};
 ghost use Prim.Native.Nat.{_≤_};
 ghost use Rattle.riscv_decode.specs.Decode.{operationOf};
@@ -13,150 +13,75 @@ use crate::operands::s_type;
 use crate::operands::shift_type;
 use crate::operands::u_type;
 
-// LUI and AUIPC.
-fn make_upper(number: u32, word: u32) -> Operation
-    requires { ⌜ (1 ≤ number) × (number ≤ 2) ⌝ }
+// Jumps, branches, loads and stores, and what puts an address together.
+fn transfer_of(number: u32, word: u32) -> Operation
+    requires { ⌜ (1 ≤ number) × (number ≤ 18) ⌝ }
     ensures { λ r. ⌜ Decoded.Known r ≡ operationOf number word ⌝ }
 {
-    let operands = u_type(word);
     match number {
-        1 => Operation::Lui(operands),
-        _ => Operation::Auipc(operands),
+        1 => Operation::Lui(u_type(word)),
+        2 => Operation::Auipc(u_type(word)),
+        3 => Operation::Jal(j_type(word)),
+        4 => Operation::Jalr(i_type(word)),
+        5 => Operation::Beq(b_type(word)),
+        6 => Operation::Bne(b_type(word)),
+        7 => Operation::Blt(b_type(word)),
+        8 => Operation::Bge(b_type(word)),
+        9 => Operation::Bltu(b_type(word)),
+        10 => Operation::Bgeu(b_type(word)),
+        11 => Operation::Lb(i_type(word)),
+        12 => Operation::Lh(i_type(word)),
+        13 => Operation::Lw(i_type(word)),
+        14 => Operation::Lbu(i_type(word)),
+        15 => Operation::Lhu(i_type(word)),
+        16 => Operation::Sb(s_type(word)),
+        17 => Operation::Sh(s_type(word)),
+        _ => Operation::Sw(s_type(word)),
     }
 }
 
-// The branches.
-fn make_branch(number: u32, word: u32) -> Operation
-    requires { ⌜ (5 ≤ number) × (number ≤ 10) ⌝ }
+// What computes, and the fences.
+fn computing_of(number: u32, word: u32) -> Operation
+    requires { ⌜ (19 ≤ number) × (number ≤ operationCount) ⌝ }
     ensures { λ r. ⌜ Decoded.Known r ≡ operationOf number word ⌝ }
 {
-    let operands = b_type(word);
     match number {
-        5 => Operation::Beq(operands),
-        6 => Operation::Bne(operands),
-        7 => Operation::Blt(operands),
-        8 => Operation::Bge(operands),
-        9 => Operation::Bltu(operands),
-        _ => Operation::Bgeu(operands),
+        19 => Operation::Addi(i_type(word)),
+        20 => Operation::Slti(i_type(word)),
+        21 => Operation::Sltiu(i_type(word)),
+        22 => Operation::Xori(i_type(word)),
+        23 => Operation::Ori(i_type(word)),
+        24 => Operation::Andi(i_type(word)),
+        25 => Operation::Slli(shift_type(word)),
+        26 => Operation::Srli(shift_type(word)),
+        27 => Operation::Srai(shift_type(word)),
+        28 => Operation::Add(r_type(word)),
+        29 => Operation::Sub(r_type(word)),
+        30 => Operation::Sll(r_type(word)),
+        31 => Operation::Slt(r_type(word)),
+        32 => Operation::Sltu(r_type(word)),
+        33 => Operation::Xor(r_type(word)),
+        34 => Operation::Srl(r_type(word)),
+        35 => Operation::Sra(r_type(word)),
+        36 => Operation::Or(r_type(word)),
+        37 => Operation::And(r_type(word)),
+        38 => Operation::Mul(r_type(word)),
+        39 => Operation::Div(r_type(word)),
+        40 => Operation::Divu(r_type(word)),
+        41 => Operation::Rem(r_type(word)),
+        42 => Operation::Remu(r_type(word)),
+        43 => Operation::Fence,
+        _ => Operation::FenceI,
     }
 }
 
-// The loads.
-fn make_load(number: u32, word: u32) -> Operation
-    requires { ⌜ (11 ≤ number) × (number ≤ 15) ⌝ }
-    ensures { λ r. ⌜ Decoded.Known r ≡ operationOf number word ⌝ }
-{
-    let operands = i_type(word);
-    match number {
-        11 => Operation::Lb(operands),
-        12 => Operation::Lh(operands),
-        13 => Operation::Lw(operands),
-        14 => Operation::Lbu(operands),
-        _ => Operation::Lhu(operands),
-    }
-}
-
-// The stores.
-fn make_store(number: u32, word: u32) -> Operation
-    requires { ⌜ (16 ≤ number) × (number ≤ 18) ⌝ }
-    ensures { λ r. ⌜ Decoded.Known r ≡ operationOf number word ⌝ }
-{
-    let operands = s_type(word);
-    match number {
-        16 => Operation::Sb(operands),
-        17 => Operation::Sh(operands),
-        _ => Operation::Sw(operands),
-    }
-}
-
-// The operations with an immediate.
-fn make_immediate(number: u32, word: u32) -> Operation
-    requires { ⌜ (19 ≤ number) × (number ≤ 24) ⌝ }
-    ensures { λ r. ⌜ Decoded.Known r ≡ operationOf number word ⌝ }
-{
-    let operands = i_type(word);
-    match number {
-        19 => Operation::Addi(operands),
-        20 => Operation::Slti(operands),
-        21 => Operation::Sltiu(operands),
-        22 => Operation::Xori(operands),
-        23 => Operation::Ori(operands),
-        _ => Operation::Andi(operands),
-    }
-}
-
-// The shifts by a constant.
-fn make_shift(number: u32, word: u32) -> Operation
-    requires { ⌜ (25 ≤ number) × (number ≤ 27) ⌝ }
-    ensures { λ r. ⌜ Decoded.Known r ≡ operationOf number word ⌝ }
-{
-    let operands = shift_type(word);
-    match number {
-        25 => Operation::Slli(operands),
-        26 => Operation::Srli(operands),
-        _ => Operation::Srai(operands),
-    }
-}
-
-// The operations of two registers.
-fn make_register(number: u32, word: u32) -> Operation
-    requires { ⌜ (28 ≤ number) × (number ≤ 42) ⌝ }
-    ensures { λ r. ⌜ Decoded.Known r ≡ operationOf number word ⌝ }
-{
-    let operands = r_type(word);
-    match number {
-        28 => Operation::Add(operands),
-        29 => Operation::Sub(operands),
-        30 => Operation::Sll(operands),
-        31 => Operation::Slt(operands),
-        32 => Operation::Sltu(operands),
-        33 => Operation::Xor(operands),
-        34 => Operation::Srl(operands),
-        35 => Operation::Sra(operands),
-        36 => Operation::Or(operands),
-        37 => Operation::And(operands),
-        38 => Operation::Mul(operands),
-        39 => Operation::Div(operands),
-        40 => Operation::Divu(operands),
-        41 => Operation::Rem(operands),
-        _ => Operation::Remu(operands),
-    }
-}
-
-// The operation of a number, with the operands that the word has in its format.
+// The operation of a number, with the operands that the word has in its format. Two jumps by number, as one would be too long a function.
 pub fn operation_of(number: u32, word: u32) -> Operation
     requires { ⌜ (1 ≤ number) × (number ≤ operationCount) ⌝ }
     ensures { λ r. ⌜ Decoded.Known r ≡ operationOf number word ⌝ }
 {
-    if 43 < number {
-        return Operation::FenceI;
+    if number < 19 {
+        return transfer_of(number, word);
     }
-    if 42 < number {
-        return Operation::Fence;
-    }
-    if 27 < number {
-        return make_register(number, word);
-    }
-    if 24 < number {
-        return make_shift(number, word);
-    }
-    if 18 < number {
-        return make_immediate(number, word);
-    }
-    if 15 < number {
-        return make_store(number, word);
-    }
-    if 10 < number {
-        return make_load(number, word);
-    }
-    if 4 < number {
-        return make_branch(number, word);
-    }
-    if 3 < number {
-        return Operation::Jalr(i_type(word));
-    }
-    if 2 < number {
-        return Operation::Jal(j_type(word));
-    }
-    make_upper(number, word)
+    computing_of(number, word)
 }
