@@ -11,18 +11,13 @@ use Rattle.predicate_answer.specs.declared.PredicateTransducerExecution.{Predic
 use Rattle.predicate_semantics.specs.State.{Result}
 use Rattle.predicate_semantics.specs.Tested.{Tested, passed}
 use Rattle.predicate_semantics.specs.Tested as Tested
-use Rattle.predicate_semantics.specs.Scalar as Scalar
 use Rattle.predicate_semantics.specs.Standing.{standingScalarRun}
-use Rattle.predicate_semantics.specs.Standing as Standing
+use Rattle.predicate_semantics.proofs.Computing.{scalar}
 use Rattle.riscv32imc_predicate.specs.Outcome.{resultIn}
 use Rattle.wrong_programs.specs.Inputs.{Input, imageOf, symbolsOf, returnsInput, returns1, returns0, jumpFirst, nopFirst}
 use Rattle.wrong_programs.specs.Behaviours.{isAccepted, steps, Agree}
 use Rattle.wrong_programs.specs.Refuted.{RunOutput, recordOf, seenOfRun, RunPromises, PromiseRefuted}
 use Rattle.wrong_programs.proofs.Table.{runs, different}
-
-scalar : Unit {0}
-unfolding Scalar._>>=_ Scalar.require Scalar.put Scalar.read Scalar.write Scalar.inside Scalar.access Scalar.reg Scalar.operand Scalar.fetchWord Scalar.fetch Scalar.execute Scalar.look Scalar.step Scalar.events Scalar.finish Scalar.run Scalar.start Scalar.scalarRun Standing.standingScalarRun
-scalar = tt
 
 -- the scalar run of the first input
 abbrev scalarFirst : Input → Option Result

@@ -7,21 +7,9 @@ use mathlib.Core.List.{List}
 use Prim.Native.Nat.{ℕ, _<_}
 use native.Mathlib.Omega.{arith}
 use lib.ListN.{getD}
-use Rattle.rv32_arithmetic.specs.Bits as Bits
-use Rattle.riscv32imc.specs.Expansion as Expansion
-use Rattle.riscv_decode.specs.Listing as Listing
-use Rattle.riscv_decode.specs.Rows as Rows
-use Rattle.riscv_decode.specs.Decode as Decode
-use Rattle.lane_word.specs.Word as Word
-use Rattle.predicate_semantics.specs.Choice as Choice
-use Rattle.predicate_semantics.specs.Meaning as Meaning
-use Rattle.predicate_semantics.specs.Program as Program
-use Rattle.predicate_semantics.specs.State as State
-use Rattle.predicate_semantics.specs.Memory as Memory
-use Rattle.predicate_semantics.specs.Tested as Tested
 use Rattle.predicate_semantics.specs.Lane as Lane
-use Rattle.predicate_semantics.specs.Standing as Standing
 use Rattle.predicate_semantics.specs.Cases as Cases
+use Rattle.predicate_semantics.proofs.Computing.{expansion, decoding, words, running, standing}
 use Rattle.predicate_trace.specs.declared.PredicateControlStep.{PredicateControlStep}
 use Rattle.predicate_answer.specs.declared.PredicateTransducerExecution.{PredicateTransducerExecution}
 use Rattle.lane_record.specs.Format.{Record}
@@ -32,7 +20,7 @@ use Rattle.wrong_programs.proofs.Right.{Right, recordAt, Served, run-ri
 
 -- to unfold this is to unfold what its line names
 unfoldable pub runs : Unit {0}
-unfolding Bits.signExtend Expansion.expand Expansion.quadrant1 Expansion.cLi Expansion.place Expansion.cArithmetic Expansion.cOperations Expansion.quadrant2 Expansion.cRegisters Listing.listing Listing.operation Listing.fixed Rows.maskOf Rows.matchOf Rows.rowsFrom Rows.standingRows Rows.findRow Decode.operationOf Decode.decodeWith Decode.decodeOf Word.unknown Word.constant Word.domain Word.zip Word.unary Word.binary Word.every Word.inputs Choice.choose Meaning.meaning Program.initial Program.sized Program.inMemory Program.placed State.fill State.atStart State.assign State.recorded State.advance State.apply Memory.byteAt Memory.laneBytes Memory.put Memory.read Memory.write Tested._>>=_ Tested.refuse Tested.require Tested.found Lane.inside Lane.on Lane.lanes Lane.memoryOf Lane.agreed Lane.access Lane.accessAgreed Lane.fetchWord Lane.fetch Lane.reg Lane.operand Lane.execute Lane.look Lane.step Lane.events Lane.finish Lane.run Lane.begin Lane.start Lane.laneRun Lane.execution Lane.laneOperations Lane.writtenBytes Standing.expandedWord Standing.decodedOperation Standing.standingCore Standing.standing Standing.setup Standing.standingLaneRun Cases.symbols Cases.word Cases.half Cases.return1
+unfolding expansion decoding words running standing Lane.execution Lane.laneOperations Lane.writtenBytes Cases.symbols Cases.word Cases.half Cases.return1
 runs = tt
 
 abbrev written : Option Record → ℕ
