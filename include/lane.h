@@ -142,20 +142,20 @@ static inline struct lane_step lane_step_at(const uint8_t *trace, size_t index)
 static inline const char *lane_refusal_text(uint32_t number)
 {
     switch (number) {
-    case LANE_REFUSAL_IMAGE_SIZE: return "image empty or too large";
-    case LANE_REFUSAL_SYMBOL: return "a symbol outside memory";
+    case LANE_REFUSAL_IMAGE_SIZE: return "the image is empty or too large";
+    case LANE_REFUSAL_SYMBOL: return "a symbol lies outside memory";
     case LANE_REFUSAL_STEP_LIMIT: return "not at stop after 1,000,000 steps";
     case LANE_REFUSAL_BELOW_MEMORY: return "address below memory";
-    case LANE_REFUSAL_PAST_MEMORY: return "access past the end of memory";
+    case LANE_REFUSAL_PAST_MEMORY: return "access past memory's end";
     case LANE_REFUSAL_UNKNOWN: return "unknown";
-    case LANE_REFUSAL_NOT_UNIFORM: return "not uniform";
+    case LANE_REFUSAL_NOT_UNIFORM: return "not the same in all lanes";
     case LANE_REFUSAL_HALFWORD: return "halfword not accepted";
     case LANE_REFUSAL_WORD: return "word not accepted";
     case LANE_REFUSAL_JUMP_TO_ZERO: return "jump target 0";
     case LANE_REFUSAL_IMAGE_STORE: return "store below the image's end";
     case LANE_REFUSAL_EVENT_COUNT: return "event count above 32 or unlike the number of recorded SWs";
-    case LANE_REFUSAL_ROWS: return "distinct written bytes exceed the rows";
-    case LANE_REFUSAL_TRACE: return "no trace entry left";
+    case LANE_REFUSAL_ROWS: return "more distinct written bytes than rows lent";
+    case LANE_REFUSAL_TRACE: return "more steps than trace entries lent";
     case LANE_REFUSAL_RULES: return "the record's rules are broken";
     case LANE_REFUSAL_OUTPUT: return "output too short for the record";
     default: return "no refusal";

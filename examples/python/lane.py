@@ -13,10 +13,10 @@ import sys
 
 ROW_BYTES, ENTRY_BYTES, MAX_EVENTS = 264, 13, 32
 ACCEPTED, REFUSED = 0x01, 0x7F
-REFUSALS = ['no refusal', 'image empty or too large', 'a symbol outside memory', 'not at stop after 1,000,000 steps', 'address below memory',
-            'access past the end of memory', 'unknown', 'not uniform', 'halfword not accepted', 'word not accepted', 'jump target 0',
+REFUSALS = ['no refusal', 'the image is empty or too large', 'a symbol lies outside memory', 'not at stop after 1,000,000 steps', 'address below memory',
+            "access past memory's end", 'unknown', 'not the same in all lanes', 'halfword not accepted', 'word not accepted', 'jump target 0',
             "store below the image's end", 'event count above 32 or unlike the number of recorded SWs',
-            'distinct written bytes exceed the rows', 'no trace entry left', "the record's rules are broken", 'output too short for the record']
+            'more distinct written bytes than rows lent', 'more steps than trace entries lent', "the record's rules are broken", 'output too short for the record']
 ROLES = ['', 'fetch', 'jump target', 'load address', 'store address', 'branch', 'return value', 'event count', 'operation', 'offset', 'value']
 
 

@@ -1,6 +1,10 @@
 """The record: its items, its rules, and the words for its refusals (docs/RECORD.md, docs/REFUSALS.md)."""
 import collections
+import os
+import re
 import struct
+
+from .command import ROOT
 
 STOP = 0x801FFFFC
 LANES, FIRST_INPUT, MOST_STEPS, MOST_EVENTS = 250, 6, 1000000, 32
@@ -8,14 +12,15 @@ HEADING, EVENT, STEP, REFUSAL = 0x01, 0x02, 0x03, 0x7F
 SIZES = {HEADING: 21, EVENT: 17, STEP: 14, REFUSAL: 7}
 NAMES = {HEADING: 'heading', EVENT: 'event', STEP: 'step', REFUSAL: 'refusal'}
 
-REASONS = {
-    1: 'the image is empty or too large', 2: 'a symbol lies outside memory', 3: 'not at stop after 1,000,000 steps',
-    4: 'address below memory', 5: "access past memory's end", 6: 'unknown', 7: 'not the same in all lanes', 8: 'halfword not accepted',
-    9: 'word not accepted', 10: 'jump target 0', 11: "store below the image's end",
-    12: 'event count above 32 or unlike the number of recorded SWs', 13: 'more distinct written bytes than rows lent',
-    14: 'more steps than trace entries lent'}
-ROLES = {1: 'fetch', 2: 'jump target', 3: 'load address', 4: 'store address', 5: 'branch', 6: 'return value', 7: 'event count',
-         8: 'operation', 9: 'offset', 10: 'value'}
+
+def texts(name):
+    """The words that stand beside the numbers of refusals and roles in crates/predicate_answer, each by its number."""
+    with open(os.path.join(ROOT, 'crates', 'predicate_answer', 'src', 'lib.rt')) as file:
+        words = re.search(name + r': \[u8; \d+\] = \*b"([^"]*)"', file.read())[1]
+    return dict(enumerate(words.replace('\\\n', '').split('|')[1:], 1))
+
+
+REASONS, ROLES = texts('REFUSAL_TEXTS'), texts('ROLE_TEXTS')
 
 Step = collections.namedtuple('Step', 'program_counter word length next_program_counter')
 Event = collections.namedtuple('Event', 'operation offset value location')

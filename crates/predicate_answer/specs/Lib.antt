@@ -1,3 +1,3 @@
--- What a run answers.
+-- To believe: what a run answers.
 pub mod Refusal
 pub mod Blank

@@ -5,7 +5,14 @@ use Rattle.predicate_answer.specs.declared.Role.the-variants as role
 use Rattle.predicate_answer.specs.declared.Rv32Error.{Rv32Error}
 use Rattle.predicate_answer.specs.declared.Rv32Error.the-variants as error
 
--- a number from 1 to 14; a role from 1 to 10 beside 6 and 7, and 0 beside the others
+-- the last of the numbers and of the roles, which begin at 1
+abbrev pub lastRefusal : ℕ
+lastRefusal = 14
+
+abbrev pub lastRole : ℕ
+lastRole = 10
+
+-- a number, and beside 6 and 7 a role; beside the others 0
 pub record Refusal : Type 0 where
   pub number : ℕ
   pub role : ℕ

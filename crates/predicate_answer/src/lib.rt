@@ -57,21 +57,26 @@ pub enum Rv32Error {
     NoTraceEntry,
 }
 
+// The last number of a run's refusals, and the last role; both begin at 1.
+pub const LAST_REFUSAL: u32 = 14;
+
+pub const LAST_ROLE: u32 = 10;
+
 // Each refusal in words, from number 1 on, after a stroke; 15 and 16 are what a record's reader and writer refuse with.
-pub const REFUSAL_TEXTS: [u8; 415] = *b"|image empty or too large\
-|a symbol outside memory\
+pub const REFUSAL_TEXTS: [u8; 455] = *b"|the image is empty or too large\
+|a symbol lies outside memory\
 |not at stop after 1,000,000 steps\
 |address below memory\
-|access past the end of memory\
+|access past memory's end\
 |unknown\
-|not uniform\
+|not the same in all lanes\
 |halfword not accepted\
 |word not accepted\
 |jump target 0\
 |store below the image's end\
 |event count above 32 or unlike the number of recorded SWs\
-|distinct written bytes exceed the rows\
-|no trace entry left\
+|more distinct written bytes than rows lent\
+|more steps than trace entries lent\
 |the record's rules are broken\
 |output too short for the record";
 
