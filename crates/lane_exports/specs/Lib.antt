@@ -1,2 +1,2 @@
--- What stands at the C boundary.
+-- To believe: what stands at the C boundary.
 pub mod Boundary

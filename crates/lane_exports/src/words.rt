@@ -1,8 +1,8 @@
 // An outcome as words at the C boundary.
-use predicate_answer::MAX_EVENTS;
 use lane_record::RecordAnswer;
 use lane_record::RecordOutcome;
 use predicate_answer::CompiledMmioEvent;
+use predicate_answer::MAX_EVENTS;
 use predicate_answer::PredicateTransducerExecution;
 ghost use mathlib.Core.Path.{_≡_};
 ghost use mathlib.Core.List.{[], _∷_};

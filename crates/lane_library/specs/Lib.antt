@@ -1,3 +1,3 @@
--- What the program's input stands for, and what the run over it answers and leaves.
+-- To believe: what the program's input stands for, and what the run over it answers and leaves.
 pub mod Inputs
 pub mod Outcome

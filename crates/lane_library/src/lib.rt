@@ -1,9 +1,9 @@
 // The lane run from the program's input bytes to the record's bytes, over lent memory.
-use predicate_answer::MAX_EVENTS;
 use lane_record::RecordAnswer;
 use lane_record::RecordOutcome;
 use lane_record::RecordRefusal;
 use lane_record::WriteAnswer;
+use predicate_answer::MAX_EVENTS;
 use predicate_semantics::Rv32SymbolLayout;
 use riscv32imc_predicate::PredicateAnswer;
 use riscv32imc_predicate::PredicateRun;

@@ -10,6 +10,7 @@ use lib.Dec.{eqb}
 use lib.ListN.{length, getD, take, drop, set, length-set, length-append}
 use lib.Seq.{sets, drop-cons, drop-drop, getD-drop}
 use borrow.Author.Tests.{eq-eqb, ne-eqb}
+use Rattle.little_endian.specs.Number as number
 use Rattle.little_endian.specs.Pack.{pack, unpack, packs, Fits, AllFit}
 use Rattle.little_endian.proofs.SetLaws.{sets-step}
 use Rattle.predicate_trace.specs.declared.PredicateControlStep.{PredicateControlStep}
@@ -69,9 +70,8 @@ steps-next s at p n x e h =
     ∙ ap (λ (y : PredicateControlStep). y ∷ stepsAt p (n - 1) (drop (p + entryBytes) (drop at s))) (sym e)
     ∙ ap (λ (y : List ℕ). x ∷ stepsAt p (n - 1) y) (drop-drop (p + entryBytes) at s)
 
-pub begins-some : (s : List ℕ) (at p n : ℕ) (x : PredicateControlStep) → x ≡ stepOf (unpack stepWidths (drop (at + p) s)) → 0 < n
-    → x .«program_counter» ≡ begins stop (stepsAt p n (drop at s))
-begins-some s at p n x e h = sym (ap (begins stop) (steps-next s at p n x e h))
+pub begins-some : (s : List ℕ) (at p n : ℕ) → 0 < n → number.value (take 4 (drop (at + p) s)) ≡ begins stop (stepsAt p n (drop at s))
+begins-some s at p n h = sym (ap (begins stop) (steps-next s at p n _ refl h))
 
 pub record Linking (s : List ℕ) (p : ℕ) (b : Bool) (at left : ℕ) : Type 0 where
   pub fits : at + left * (p + entryBytes) ≤ length s

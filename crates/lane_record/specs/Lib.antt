@@ -1,4 +1,4 @@
--- The record: its bytes, its rules, and what its writer and its reader answer.
+-- To believe: the record: its bytes, its rules, and what its writer and its reader answer.
 pub mod Format
 pub mod Rules
 pub mod Decode

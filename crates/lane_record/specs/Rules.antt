@@ -10,6 +10,7 @@ use Rattle.predicate_trace.specs.declared.PredicateControlStep.{PredicateContro
 use Rattle.predicate_answer.specs.declared.PredicateTransducerExecution.{PredicateTransducerExecution}
 use Rattle.predicate_semantics.specs.Program.{stop}
 use Rattle.predicate_answer.specs.Blank.{maxEvents}
+use Rattle.predicate_answer.specs.Refusal.{lastRefusal, lastRole}
 use Rattle.lane_record.specs.declared.RecordRefusal.{RecordRefusal}
 use Rattle.lane_record.specs.Format.{Record, accepted, refused}
 
@@ -48,13 +49,6 @@ begins end (s ∷ ss) = s .«program_counter»
 abbrev pub linked : ℕ → List PredicateControlStep → Bool
 linked end [] = true
 linked end (s ∷ ss) = link s (begins end ss) && linked end ss
-
--- Who causes a refusal: the last of the roles, and the last of the refusals that a run gives
-abbrev pub lastRole : ℕ
-lastRole = 10
-
-abbrev pub lastRefusal : ℕ
-lastRefusal = 14
 
 -- of the refusals only 6 and 7 have a role
 abbrev pub roleValid : ℕ → ℕ → Bool

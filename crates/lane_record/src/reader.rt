@@ -1,11 +1,9 @@
 // Reading: every rule is tested before anything is written.
-use predicate_answer::MAX_EVENTS;
 use super::ReadAnswer;
 use super::RecordAnswer;
 use super::RecordOutcome;
 use super::RecordReading;
 use super::RecordRefusal;
-use predicate_trace::ENTRY_BYTES;
 use super::items::EVENT;
 use super::items::EVENT_BYTES;
 use super::items::HEADING;
@@ -22,7 +20,9 @@ use super::rules::execution_valid;
 use super::rules::refusal_valid;
 use super::rules::steps_linked;
 use predicate_answer::CompiledMmioEvent;
+use predicate_answer::MAX_EVENTS;
 use predicate_answer::PredicateTransducerExecution;
+use predicate_trace::ENTRY_BYTES;
 use predicate_trace::put_entry;
 ghost use mathlib.Core.Path.{_≡_};
 ghost use mathlib.Core.Bool.{cond, _&&_};

@@ -1,12 +1,14 @@
 // The record's rules, as tests.
-use predicate_answer::MAX_EVENTS;
 use super::RecordRefusal;
-use predicate_trace::ENTRY_BYTES;
 use super::items::step_at;
 use lane_word::LaneWord;
-use predicate_trace::PredicateControlStep;
+use predicate_answer::LAST_REFUSAL;
+use predicate_answer::LAST_ROLE;
+use predicate_answer::MAX_EVENTS;
 use predicate_answer::PredicateTransducerExecution;
 use predicate_semantics::STOP;
+use predicate_trace::ENTRY_BYTES;
+use predicate_trace::PredicateControlStep;
 ghost use mathlib.Core.Path.{_≡_};
 ghost use mathlib.Core.Bool.{cond, _&&_, _||_};
 ghost use Prim.Native.Nat.{_+_, _*_, _≤_};
@@ -22,11 +24,6 @@ const MAX_STEPS: u32 = riscv32imc::MAX_RV32_STEPS as u32;
 const MIN_WRITTEN_BYTES: u32 = 4;
 
 const MAX_WRITTEN_BYTES: u32 = riscv32imc::MAX_RV32_MEMORY_BYTES as u32 - 1;
-
-// The last of the roles, and of the refusals that a run gives.
-const LAST_ROLE: u32 = 10;
-
-const LAST_REFUSAL: u32 = 14;
 
 // Called where an operator would part a function's one answer into several ways to prove.
 pub fn both_hold(a: bool, b: bool) -> bool
@@ -112,7 +109,7 @@ fn begins_at(s: &[u8], from: usize, p: usize, n: usize) -> u32
     ensures { λ r. ⌜ r ≡ rules.begins stop (stepsAt p n (drop from (now (s .entry)))) ⌝ }
 {
     if 0 < n {
-        step_at(s, from + p).program_counter
+        little_endian::get_u32(s, from + p)
     } else {
         STOP
     }

@@ -1,8 +1,6 @@
 // Writing: the rules and then the output's length are tested before anything is written.
-use predicate_answer::MAX_EVENTS;
 use super::RecordRefusal;
 use super::WriteAnswer;
-use predicate_trace::ENTRY_BYTES;
 use super::items::EVENT_BYTES;
 use super::items::HEADING_BYTES;
 use super::items::REFUSAL_BYTES;
@@ -17,7 +15,9 @@ use super::rules::execution_valid;
 use super::rules::refusal_valid;
 use super::rules::steps_linked;
 use predicate_answer::CompiledMmioEvent;
+use predicate_answer::MAX_EVENTS;
 use predicate_answer::PredicateTransducerExecution;
+use predicate_trace::ENTRY_BYTES;
 use predicate_trace::put_entry;
 ghost use mathlib.Core.Path.{_≡_};
 ghost use mathlib.Core.Bool.{_&&_};

@@ -1,4 +1,4 @@
--- To believe: what both runs are, what one promises of the other, and the bytes and zeros that answers are made of.
+-- To believe: what both runs are, and what one promises of the other.
 pub mod Choice
 pub mod Program
 pub mod State

@@ -14,7 +14,7 @@ use Rattle.predicate_semantics.specs.Program.{Core, Program, stop}
 use Rattle.predicate_answer.specs.Blank.{maxEvents}
 use Rattle.predicate_semantics.specs.State.{Result}
 use Rattle.predicate_semantics.specs.Tested.{passed}
-use Rattle.predicate_answer.specs.Refusal.{Refusal}
+use Rattle.predicate_answer.specs.Refusal.{Refusal, lastRefusal, lastRole}
 use Rattle.predicate_semantics.specs.Lane.{LaneState, Setup}
 use Rattle.predicate_semantics.specs.Standing.{standingLaneRun}
 
@@ -65,5 +65,5 @@ TakesStep =
 -- the refusals that a record can hold: a role goes with 6 and 7 alone
 unfoldable pub proper : Refusal → Bool
 proper r =
-    leb 1 (r .number) && leb (r .number) 14
-    && cond (eqb (r .number) 6 || eqb (r .number) 7) (leb 1 (r .role) && leb (r .role) 10) (eqb (r .role) 0)
+    leb 1 (r .number) && leb (r .number) lastRefusal
+    && cond (eqb (r .number) 6 || eqb (r .number) 7) (leb 1 (r .role) && leb (r .role) lastRole) (eqb (r .role) 0)

@@ -24,9 +24,7 @@ use Rattle.predicate_semantics.specs.State.{Effect, goes, sets, stores}
 use Rattle.predicate_semantics.specs.Memory.{write}
 use Rattle.predicate_semantics.specs.Tested.{Tested, passed, refused, _>>=_, require}
 use Rattle.predicate_semantics.specs.Lane.{LaneState, Setup, laneCount, reg, inside, agreedAs, agreed, access, roomFor, execute}
-use Rattle.lane_memory.specs.declared.Found.{Found}
-use Rattle.lane_memory.specs.declared.Found.the-variants.{At, Free, Full}
-use Rattle.lane_memory.specs.Rows.{rowCount, findRow, newAt, newBytes}
+use Rattle.lane_memory.specs.Rows.{rowCount, newBytes}
 use Rattle.lane_access.specs.declared.Verdict.{Verdict}
 use Rattle.lane_access.specs.Seen.{seen}
 use Rattle.lane_access.specs.Answers.{verdictOf}
@@ -46,17 +44,6 @@ tested-number : (role : ℕ) (u : Uniform) (f : ℕ → ℕ → ℕ) (n : ℕ) (
     → u ≡ uniformOf (binary f left (constant Word.lanes n)) → agreedAs role u ≡ agreed role (unary (λ v. f v n) left)
 tested-number role u f n left e h =
     tested-both role u f left (constant Word.lanes n) h ∙ ap (agreed role) (binary-constant f Word.lanes n left e)
-
--- a store takes at most a row for each of its bytes
-new-one : (f : Found) → newAt f ≤ 1
-new-one (At s) = omega arith
-new-one (Free s) = omega arith
-new-one Full = omega arith
-
-pub new-most : (rows : List ℕ) (n a : ℕ) → newBytes rows n a ≤ n
-unfolding newBytes
-new-most rows zero a = omega arith
-new-most rows (suc n) a = omega (arith, new-most rows n a, new-one (findRow rows ((a + n) % 2 ^ 32)))
 
 module _ {p : Program} {l : Setup} {s : LaneState} {image rows : List ℕ} {written : ℕ} (g : Given p l s image rows written) (next : ℕ) where
   lane-count : laneCount p l ≡ Word.lanes

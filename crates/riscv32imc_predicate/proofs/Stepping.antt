@@ -176,7 +176,7 @@ module _ {c : Call} {progress : Progress} {noted : Recorded} {rows trace : List 
     stepped = step-is c s f (h .fetches .fetched) ∙ rw (b .0, b .1)
 
     pub clear : Clear (program c) (space c) s z
-    clear = effect-clear (program c) (space c) s (add (s .pc) (f .length)) (s .pc) (f .operation) z (omega arith) (b .0)
+    clear = effect-clear (program c) (space c) s (add (s .pc) (f .length)) (s .pc) (f .operation) (omega arith) (b .0)
 
     next-reached : Lane.reached (program c) (space c) (u .steps) ≡ some u
     next-reached =

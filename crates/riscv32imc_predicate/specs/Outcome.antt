@@ -14,7 +14,7 @@ use Rattle.predicate_semantics.specs.Tested.{Tested, passed, refused}
 use Rattle.predicate_semantics.specs.Lane.{LaneState, Ended, execution}
 use Rattle.predicate_semantics.specs.Standing.{lastInput, standing, setup, standingLaneRun, standingScalarRun}
 use Rattle.predicate_answer.specs.Blank.{noExecution, noEvents}
-use Rattle.predicate_trace.specs.Trace.{entryBytes, traceBytes, stepsAt}
+use Rattle.predicate_trace.specs.Trace.{entryCount, traceBytes, stepsAt}
 use Rattle.lane_memory.specs.Rows.{rowCount, cleared}
 use Rattle.predicate_answer.specs.Refusal.{refusalOf}
 use Rattle.riscv32imc_predicate.specs.declared.PredicateAnswer.{PredicateAnswer}

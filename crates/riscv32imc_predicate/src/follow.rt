@@ -1,6 +1,5 @@
 // After a decision: the step's trace entry, its location, the next place.
 use super::Decision;
-use predicate_trace::ENTRY_BYTES;
 use super::EVENT_LIMIT;
 use super::Ending;
 use super::Place;
@@ -8,6 +7,7 @@ use super::Progress;
 use super::Recorded;
 use super::ready::ended;
 use super::ready::ready;
+use predicate_trace::ENTRY_BYTES;
 use predicate_trace::PredicateControlStep;
 use predicate_trace::put_entry;
 use rv32_arithmetic::rv32_add;

@@ -8,7 +8,6 @@ mod run;
 mod start;
 
 ghost use Rattle.riscv32imc_predicate.specs.Outcome.{Ran};
-use predicate_answer::Rv32Error;
 use lane_word::LaneWord;
 use predicate_action::Action;
 use predicate_action::Extension;
@@ -16,6 +15,7 @@ use predicate_action::Reading;
 use predicate_answer::CompiledMmioEvent;
 use predicate_answer::MAX_EVENTS;
 use predicate_answer::PredicateTransducerExecution;
+use predicate_answer::Rv32Error;
 use predicate_semantics::Rv32SymbolLayout;
 
 // The most events, as a count of them.

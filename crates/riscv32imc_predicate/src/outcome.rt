@@ -1,5 +1,4 @@
 // The whole run over rows without a mark, and what it answers.
-use predicate_answer::no_execution;
 use super::Ending;
 use super::Place;
 use super::PredicateAnswer;
@@ -7,14 +6,15 @@ use super::PredicateRun;
 use super::Recorded;
 use super::finish::Finished;
 use super::finish::finish;
-use predicate_answer::no_events;
 use super::run::advance;
 use super::start::start_place;
 use super::start::start_test;
-use predicate_answer::Rv32Error;
 use lane_access::Verdict;
 use lane_word::LaneWord;
 use predicate_answer::PredicateTransducerExecution;
+use predicate_answer::Rv32Error;
+use predicate_answer::no_events;
+use predicate_answer::no_execution;
 use predicate_semantics::Rv32SymbolLayout;
 use predicate_semantics::STOP;
 use predicate_semantics::STOP_WORD;

@@ -5,7 +5,7 @@ ghost use Prim.Native.Nat.{_+_, _*_, _%_, _^_, _≤_, _<_};
 ghost use lib.ListN.{length};
 use lane_memory::Found;
 use lane_word::LaneWord;
-use lane_word::Uniform;
+use lane_word::Told;
 use rv32_arithmetic::Binary;
 
 // What lent memory holds before a case, and its remainder after it.
@@ -13,7 +13,7 @@ const BEFORE: u32 = 0xa5;
 // What an address that was not written reads as.
 const OTHER: u8 = 7;
 // What stands for a byte of which no one value is told.
-const UNEVEN: u32 = 1000;
+const LANES_TELL: u32 = 1000;
 
 // How many answers, lanes and bytes were compared, and how many differ.
 struct Tally {
@@ -375,11 +375,10 @@ fn no_rows(memory: &mut [u8]) -> Tally
     tally
 }
 
-fn told(what: Uniform) -> u32 {
+fn told(what: Told) -> u32 {
     match what {
-        Uniform::Value(value) => value,
-        Uniform::Uneven => UNEVEN,
-        Uniform::Unknown => 2000,
+        Told::Value(value) => value,
+        Told::Lanes => LANES_TELL,
     }
 }
 
@@ -439,8 +438,8 @@ fn one_value(rows: &mut [u8]) -> Tally {
 
 fn lanes_read(rows: &[u8]) -> Tally {
     let stored = read_word(rows, 0xffff_ffff, 2, pattern(18));
-    let first = telling(rows, 0xffff_fffe, 0xf7, UNEVEN);
-    let last = telling(rows, 0, UNEVEN, 0x84);
+    let first = telling(rows, 0xffff_fffe, 0xf7, LANES_TELL);
+    let last = telling(rows, 0, LANES_TELL, 0x84);
     let joins = joining(rows, 0xffff_ffff).and(joined_known(rows, 0, 17, 0));
     stored.and(first).and(last).and(joins)
 }
@@ -453,7 +452,7 @@ fn lanes_over(rows: &mut [u8]) -> Tally {
 
 fn value_read(rows: &[u8]) -> Tally {
     let stored = read_word(rows, 0xffff_ffff, 1, LaneWord::constant(0xee));
-    let both = telling(rows, 0xffff_ffff, 0xee, UNEVEN);
+    let both = telling(rows, 0xffff_ffff, 0xee, LANES_TELL);
     stored.and(both).and(joining(rows, 0xffff_ffff))
 }
 
@@ -465,7 +464,7 @@ fn value_over(rows: &mut [u8]) -> Tally {
 
 fn unknown_read(rows: &[u8]) -> Tally {
     let stored = read_word(rows, 0xffff_ffff, 1, pattern(19));
-    let both = telling(rows, 0xffff_ffff, UNEVEN, UNEVEN);
+    let both = telling(rows, 0xffff_ffff, LANES_TELL, LANES_TELL);
     let joins = joined_known(rows, 0xffff_ffff, 16, 0).and(joined_known(rows, 0, 16, 1));
     stored.and(both).and(joins)
 }
@@ -494,7 +493,7 @@ fn freed(rows: &mut [u8]) -> Tally {
 fn taken_read(rows: &[u8]) -> Tally {
     let value = read_word(rows, 0xffff_ffff, 2, LaneWord::constant(0x3456));
     let word = read_word(rows, 1, 1, pattern(20));
-    value.and(word).and(telling(rows, 0, 0x34, UNEVEN))
+    value.and(word).and(telling(rows, 0, 0x34, LANES_TELL))
 }
 
 // The rows are taken with what was left in them.

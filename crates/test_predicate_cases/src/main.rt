@@ -5,8 +5,6 @@
 // 1,000,000 trace entries take 13 MB, which a stack of 8 MB cannot lend, and memory comes from nowhere else. So loops of 500,000 steps
 // stand in for the bound on steps: past them the entries end the run, not the bound. A second list on standard input has the edges of
 // the bound, and needs a stack of 32 MB.
-mod refusal;
-
 use little_endian::get_u8;
 use little_endian::get_u32;
 use predicate_answer::CompiledMmioEvent;
@@ -59,8 +57,8 @@ fn say_answer(run: PredicateRun) {
     let answer = run.answer;
     match answer {
         PredicateAnswer::Refused(error) => {
-            say(b": ", refusal::number(error));
-            say(b" ", refusal::role(error));
+            say(b": ", error.number() as u64);
+            say(b" ", error.role() as u64);
             say(b" ", run.steps as u64);
         }
         PredicateAnswer::Accepted => {

@@ -11,4 +11,4 @@ answer-of-spec =
     (λ c κs. search needs)
     (λ c κs. search needs)
     (λ c. search needs)
-    (λ c. rw (c .before .before .before .answer .given .1, c .before .number-of .ensures, c .role-of .ensures)))
+    (λ c. rw (c .before .before .before .answer .given .1, c .before .number .ensures, c .role .ensures)))

@@ -21,7 +21,8 @@ events-from-spec =
     (tie.spec
     Inv-loop
     μ-loop
-    (λ c. gathering-start _ _ refl)
+    (λ c κs. search needs)
+    (λ c. rw (c .no-events .ensures) (gathering-start _ _ refl))
     (λ c κs. omega (arith, c .before .loop .inv .place, c .loop-test .taken))
     (λ c. search needs)
     (λ c. search needs)

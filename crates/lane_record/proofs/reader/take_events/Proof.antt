@@ -23,13 +23,14 @@ take-events-spec =
     (tie.spec
     Inv-loop
     μ-loop
-    (λ c. taking-start _ _ _ refl)
-    (λ c. omega (arith, c .before .loop .inv .place, c .before .before .before .pre .0, c .loop-test .taken))
-    (λ c κs. omega (arith, c .before .loop .inv .place, c .before .before .before .pre .1, c .loop-test .taken))
+    (λ c κs. search needs)
+    (λ c. rw (c .no-events .ensures) (taking-start _ _ _ refl))
+    (λ c. omega (arith, c .before .loop .inv .place, c .before .before .before .before .pre .0, c .loop-test .taken))
+    (λ c κs. omega (arith, c .before .loop .inv .place, c .before .before .before .before .pre .1, c .loop-test .taken))
     (λ c. search needs)
     (λ c. search needs)
     (λ c. search needs)
-    (λ c. omega (arith, c .before .before .loop .inv .place, c .before .before .before .before .pre .0, c .before .loop-test .taken))
+    (λ c. omega (arith, c .before .before .loop .inv .place, c .before .before .before .before .before .pre .0, c .before .loop-test .taken))
     (λ c. search needs)
     (λ c. taking-step (c .before .before .loop .inv) (c .event-at .result) (c .before .loop-test .taken) (c .event-at .ensures))
     (λ c. taking-exit (c .before .loop .inv) (c .loop-test .left)))

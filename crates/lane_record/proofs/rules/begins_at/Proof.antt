@@ -1,5 +1,6 @@
-use mathlib.Core.Path.{_≡_}
+use mathlib.Core.Path.{_≡_, _∙_}
 use native.Mathlib.Omega.{arith}
+use borrow.Author.Needs.{needs}
 use Rattle.lane_record.proofs.LoopLaws.{room, begins-some}
 use Rattle.lane_record.proofs.rules.begins_at.Statement.{statement}
 use Rattle.lane_record.proofs.rules.begins_at.Tie as tie
@@ -9,6 +10,6 @@ begins-at-spec =
     tie.close
     (tie.spec
     (λ c. omega (arith, room _ _ _ _ (c .before .before .pre) (c .if1 .taken)))
-    (λ c κs. omega (arith, room _ _ _ _ (c .before .before .pre) (c .if1 .taken)))
-    (λ c. begins-some _ _ _ _ (c .step-at .result) (c .step-at .ensures) (c .before .if1 .taken))
+    (λ c κs. search needs)
+    (λ c. c .get-u32 .ensures ∙ begins-some _ _ _ _ (c .before .if1 .taken))
     (λ c. let e : c .before .before .args .n ≡ 0 = omega arith in rw e))

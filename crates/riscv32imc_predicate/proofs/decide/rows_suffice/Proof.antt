@@ -5,7 +5,7 @@ use borrow.Author.Tests.{le-leb}
 use denote.Ref.{now}
 use Prim.Native.Nat.{_+_}
 use Rattle.lane_memory.specs.Rows.{rowCount, newBytes}
-use Rattle.riscv32imc_predicate.proofs.Execution.{new-most}
+use Rattle.lane_memory.proofs.Laws.{new-bytes-most}
 use Rattle.riscv32imc_predicate.proofs.decide.rows_suffice.Statement.{statement}
 use Rattle.riscv32imc_predicate.proofs.decide.rows_suffice.Tie as tie
 
@@ -18,7 +18,7 @@ rows-suffice-spec =
     (λ c.
     let k = c .before in
     let a = k .before .before .args in
-    sym (le-leb (a .written + newBytes (now (a .rows)) (a .width) (a .address)) (rowCount (now (a .rows))) (omega (arith, c .if1 .taken, k .row-count .ensures, new-most (now (a .rows)) (a .width) (a .address)))))
+    sym (le-leb (a .written + newBytes (now (a .rows)) (a .width) (a .address)) (rowCount (now (a .rows))) (omega (arith, c .if1 .taken, k .row-count .ensures, new-bytes-most (now (a .rows)) (a .width) (a .address)))))
     (λ c κs. search needs)
     (λ c. search needs)
     (λ c. search needs)
