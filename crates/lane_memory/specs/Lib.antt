@@ -1,7 +1,7 @@
 -- Written bytes in lent rows.
--- What a run's promise cites:
+-- To believe, since a run's contract cites it:
 pub mod LentRows
--- What the functions here are equated with:
+-- For proofs. What the functions here are equated with:
 pub mod Search
 pub mod Rows
 -- What the laws say of rows and memory:

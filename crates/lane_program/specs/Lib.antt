@@ -1,2 +1,2 @@
--- What the program writes of its input.
+-- To believe: what the program writes of its input.
 pub mod Program

@@ -2,8 +2,8 @@
 use lane_memory::ROW_BYTES;
 use lane_record::EVENT_BYTES;
 use lane_record::HEADING_BYTES;
-use predicate_answer::MAX_EVENTS;
 use lane_record::STEP_BYTES;
+use predicate_answer::MAX_EVENTS;
 use predicate_trace::ENTRY_BYTES;
 ghost use Prim.Native.Nat.{_≤_};
 ghost use Rattle.lane_program.specs.Program.{ProgramLends, WritesRecord, Outputs};

@@ -1,4 +1,4 @@
--- Little-endian numbers: one of any number of bytes, and rows of them.
+-- To believe: little-endian numbers: one of any number of bytes, and rows of them.
 pub mod Number
 pub mod Pack
 pub mod Lent

@@ -1,2 +1,2 @@
--- The bytes of a trace.
+-- To believe: the bytes of a trace.
 pub mod Trace

@@ -1,4 +1,4 @@
--- What each operation computes: what the functions of this crate are equated with.
+-- To believe: what each operation computes: what the functions of this crate are equated with.
 pub mod Bits
 pub mod Arithmetic
 pub mod Value
