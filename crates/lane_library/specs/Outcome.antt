@@ -12,7 +12,7 @@ use Rattle.predicate_semantics.specs.State.{Result}
 use Rattle.predicate_semantics.specs.Standing.{lastInput, standingLaneRun, standingScalarRun}
 use Rattle.predicate_answer.specs.Blank.{noEvents}
 use Rattle.predicate_trace.specs.Trace.{traceBytes, stepsAt}
-use Rattle.lane_memory.specs.Rows.{rowCount, cleared}
+use Rattle.lane_memory.specs.LentRows.{rowCount, cleared}
 use Rattle.predicate_answer.specs.Refusal.{refusalOf}
 use Rattle.lane_record.specs.declared.RecordRefusal.{RecordRefusal}
 use Rattle.lane_record.specs.declared.RecordAnswer.{RecordAnswer}

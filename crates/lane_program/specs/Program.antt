@@ -5,7 +5,7 @@ use Prim.Native.Nat.{ℕ, _*_, _≤_}
 use lib.ListN.{length, replicate}
 use Rattle.little_endian.specs.Lent.{over}
 use Rattle.predicate_trace.specs.Trace.{entryBytes}
-use Rattle.lane_memory.specs.Rows.{rowBytes}
+use Rattle.lane_memory.specs.LentRows.{rowBytes}
 use Rattle.lane_record.specs.Format.{Record, encode}
 use Rattle.lane_record.specs.declared.WriteAnswer.the-variants.{Written}
 use Rattle.lane_library.specs.Inputs.{programRows, programEntries, symbolsIn, imageIn, taken}

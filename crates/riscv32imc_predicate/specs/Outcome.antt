@@ -15,7 +15,7 @@ use Rattle.predicate_semantics.specs.Lane.{LaneState, Ended, execution}
 use Rattle.predicate_semantics.specs.Standing.{lastInput, standing, setup, standingLaneRun, standingScalarRun}
 use Rattle.predicate_answer.specs.Blank.{noExecution, noEvents}
 use Rattle.predicate_trace.specs.Trace.{entryCount, traceBytes, stepsAt}
-use Rattle.lane_memory.specs.Rows.{rowCount, cleared}
+use Rattle.lane_memory.specs.LentRows.{rowCount, cleared}
 use Rattle.predicate_answer.specs.Refusal.{refusalOf}
 use Rattle.riscv32imc_predicate.specs.declared.PredicateAnswer.{PredicateAnswer}
 use Rattle.riscv32imc_predicate.specs.declared.PredicateAnswer.the-variants as answer

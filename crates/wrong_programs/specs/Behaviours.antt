@@ -16,7 +16,7 @@ use Rattle.predicate_semantics.specs.Tested.{passed}
 use Rattle.predicate_semantics.specs.Lane.{Ended, laneRun}
 use Rattle.predicate_semantics.specs.Standing.{standing}
 use Rattle.predicate_answer.specs.Blank.{noExecution}
-use Rattle.lane_memory.specs.Rows.{rowCount}
+use Rattle.lane_memory.specs.LentRows.{rowCount}
 use Rattle.lane_record.specs.Format.{Record, accepted, refused}
 use Rattle.predicate_trace.specs.Trace.{entryCount}
 use Rattle.wrong_programs.specs.Inputs.{Input, imageOf, symbolsOf}

@@ -8,7 +8,7 @@ use Rattle.predicate_semantics.specs.declared.Rv32SymbolLayout.{Rv32SymbolLayou
 use Rattle.predicate_semantics.specs.Lane.{Ended}
 use Rattle.predicate_semantics.specs.Cases.{symbols, word, half, return1}
 use Rattle.predicate_trace.specs.Trace.{entryBytes}
-use Rattle.lane_memory.specs.Rows.{rowBytes}
+use Rattle.lane_memory.specs.LentRows.{rowBytes}
 use Rattle.riscv32imc_predicate.specs.Outcome.{runOver}
 use Rattle.lane_library.specs.Inputs.{symbolsIn, imageIn}
 
