@@ -5,10 +5,11 @@ use Prim.Native.Nat.{ℕ, suc, _+_}
 use native.Mathlib.Numerals.{add-one, add-four, add-five, add-eight}
 use native.Mathlib.Nat.{add-assoc}
 use native.Mathlib.Omega.{arith}
-use lib.ListN.{take, drop}
+use lib.ListN.{getD, take, drop}
 use lib.Seq.{sets, drop-drop}
 use Rattle.little_endian.specs.Number as number
 use Rattle.little_endian.specs.Pack.{unpack}
+use Rattle.little_endian.proofs.NumberLaws.{value-one}
 use Rattle.predicate_trace.specs.declared.PredicateControlStep.{PredicateControlStep}
 use Rattle.predicate_answer.specs.declared.CompiledMmioEvent.{CompiledMmioEvent}
 use Rattle.predicate_answer.specs.declared.PredicateTransducerExecution.{PredicateTransducerExecution}
@@ -39,9 +40,9 @@ module _ (l : List ℕ) where
   pub event-is : (i : ℕ) → record { operation = at 4 i; offset = at 4 (i + 4); value = at 4 (i + 8); location = at 4 (i + 12) } ≡ eventFrom (unpack (widths event) (drop i l))
   event-is i = rw (drop-drop 4 i l, drop-drop 4 (i + 4) l, drop-drop 4 (i + 4 + 4) l, add-assoc i 4 4, add-assoc i 8 4)
 
-  pub step-is : (i : ℕ) → record { «program_counter» = at 4 i; «instruction_word» = at 4 (i + 4); «instruction_bytes» = at 1 (i + 8); «next_program_counter» = at 4 (i + 9) }
+  pub step-is : (i : ℕ) → record { «program_counter» = at 4 i; «instruction_word» = at 4 (i + 4); «instruction_bytes» = getD l (i + 8) 0; «next_program_counter» = at 4 (i + 9) }
       ≡ stepOf (unpack stepWidths (drop i l))
-  step-is i = rw (drop-drop 4 i l, drop-drop 4 (i + 4) l, drop-drop 1 (i + 4 + 4) l, add-assoc i 4 4, add-assoc i 8 1)
+  step-is i = rw (drop-drop 4 i l, drop-drop 4 (i + 4) l, drop-drop 1 (i + 4 + 4) l, add-assoc i 4 4, add-assoc i 8 1, value-one l (i + 8))
 
 -- ---- written: each call's list by what it ensures
 module _ (l : List ℕ) where

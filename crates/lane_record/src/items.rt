@@ -6,14 +6,16 @@ use little_endian::get_u32;
 use little_endian::put_u8;
 use little_endian::put_u16;
 use little_endian::put_u32;
+use little_endian::word;
 use predicate_answer::CompiledMmioEvent;
 use predicate_answer::PredicateTransducerExecution;
 use predicate_trace::ENTRY_BYTES;
 use predicate_trace::PredicateControlStep;
 ghost use mathlib.Core.Path.{_≡_};
 ghost use Prim.Native.Nat.{_+_, _≤_};
-ghost use lib.ListN.{length, drop};
+ghost use lib.ListN.{length, take, drop};
 ghost use lib.Seq.{sets};
+ghost use Rattle.little_endian.specs.Number.{value};
 ghost use Rattle.little_endian.specs.Pack.{total, unpack, Fits};
 ghost use Rattle.predicate_trace.specs.Trace.{entryBytes, stepWidths, stepOf};
 ghost use Rattle.lane_record.specs.Format.{heading, event, refusal, widths, size, item, executionValues, eventValues, eventFrom, refusalValues};
@@ -73,15 +75,23 @@ pub fn event_at(s: &[u8], at: usize) -> CompiledMmioEvent
     }
 }
 
+// Four bytes that lie inside, read plainly.
+pub fn word_at(s: &[u8], at: usize) -> u32
+    requires { ⌜ at + 4 ≤ length (now s) ⌝ }
+    ensures { λ r. ⌜ r ≡ value (take 4 (drop at (now (s .entry)))) ⌝ }
+{
+    word(s[at], s[at + 1], s[at + 2], s[at + 3])
+}
+
 pub fn step_at(s: &[u8], at: usize) -> PredicateControlStep
     requires { ⌜ at + entryBytes ≤ length (now s) ⌝ }
     ensures { λ r. ⌜ r ≡ stepOf (unpack stepWidths (drop at (now (s .entry)))) ⌝ }
 {
     PredicateControlStep {
-        program_counter: get_u32(s, at),
-        instruction_word: get_u32(s, at + 4),
-        instruction_bytes: get_u8(s, at + 8),
-        next_program_counter: get_u32(s, at + 9),
+        program_counter: word_at(s, at),
+        instruction_word: word_at(s, at + 4),
+        instruction_bytes: s[at + 8],
+        next_program_counter: word_at(s, at + 9),
     }
 }
 

@@ -1,6 +1,7 @@
 // The record's rules, as tests.
 use super::RecordRefusal;
 use super::items::step_at;
+use super::items::word_at;
 use lane_word::LaneWord;
 use predicate_answer::LAST_REFUSAL;
 use predicate_answer::LAST_ROLE;
@@ -108,11 +109,7 @@ fn begins_at(s: &[u8], from: usize, p: usize, n: usize) -> u32
     requires { ⌜ from + n * (p + entryBytes) ≤ length (now s) ⌝ }
     ensures { λ r. ⌜ r ≡ rules.begins stop (stepsAt p n (drop from (now (s .entry)))) ⌝ }
 {
-    if 0 < n {
-        little_endian::get_u32(s, from + p)
-    } else {
-        STOP
-    }
+    if 0 < n { word_at(s, from + p) } else { STOP }
 }
 
 // n steps, each after p other bytes: 1 in a record, none in a trace.

@@ -1,9 +1,9 @@
 -- Stores one after another: what is left to write, from here, is what there was to write from the start. Assumes nothing.
 use mathlib.Core.Path.{_≡_, refl, ap, sym, _∙_}
 use mathlib.Core.List.{List, [], _∷_, _++_}
-use Prim.Native.Nat.{ℕ, suc, _+_, _/_, _%_, _≤_}
+use Prim.Native.Nat.{ℕ, suc, _+_, _/_, _%_, _≤_, _<_}
 use native.Mathlib.Numerals.{add-one, add-two, add-three}
-use native.Mathlib.Nat.{add-zero, add-suc, suc-add, zero-add}
+use native.Mathlib.Nat.{add-zero, add-suc, suc-add, zero-add, mod-eq-of-lt}
 use native.Mathlib.Omega.{arith}
 use lib.ListN.{length, set}
 use lib.Seq.{sets, sets-eq}
@@ -22,7 +22,10 @@ sets-step l l′ i z vs rest e n = rw (e, ← n) (sym (sets-append vs rest l i))
 pub sets-over : {A : Type 0} (vs l : List A) → length vs ≤ length l → sets l 0 vs ≡ over vs l
 sets-over vs l h = sets-eq vs l 0 (rw zero-add h) ∙ rw (zero-add (length vs))
 
--- what straight-line code leaves of a number's four bytes
+-- what straight-line code leaves of a number's one byte, and of its four
+pub sets-one : (l : List ℕ) (at x : ℕ) → x < 256 → set l at x ≡ sets l at (bytes 1 x)
+sets-one l at x h = rw (mod-eq-of-lt h)
+
 pub sets-four : (l : List ℕ) (at x : ℕ)
     → set (set (set (set l at (x % 256)) (at + 1) (x / 256 % 256)) (at + 2) (x / 65536 % 256)) (at + 3) (x / 16777216 % 256) ≡ sets l at (bytes 4 x)
 sets-four l at x =

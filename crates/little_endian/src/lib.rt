@@ -12,7 +12,8 @@ fn half(a: u8, b: u8) -> u16
     (a as u16) + (b as u16) * 256
 }
 
-fn word(a: u8, b: u8, c: u8, d: u8) -> u32
+// The number whose bytes these are, the lowest first.
+pub fn word(a: u8, b: u8, c: u8, d: u8) -> u32
     ensures { λ r. ⌜ r ≡ value (a ∷ b ∷ c ∷ d ∷ []) ⌝ }
 {
     (a as u32) + (b as u32) * 256 + (c as u32) * 65536 + (d as u32) * 16777216

@@ -1,7 +1,7 @@
 -- Record: a trace's bytes, an entry for each step, as the body of item 03.
 use mathlib.Core.Bool.{cond}
 use mathlib.Core.List.{List, [], _∷_, map}
-use Prim.Native.Nat.{ℕ, _+_, _/_}
+use Prim.Native.Nat.{ℕ, suc, _+_, _*_, _/_}
 use lib.Dec.{leb}
 use lib.ListN.{getD, length}
 use lib.Seq.{sets}
@@ -44,3 +44,8 @@ stepsAt p n bs = map stepOf (unpacks p stepWidths n bs)
 -- a step's entry at a place of lent bytes; one that does not lie inside is not written
 unfoldable pub putEntry : List ℕ → ℕ → PredicateControlStep → List ℕ
 putEntry bs at s = cond (leb (at + entryBytes) (length bs)) (sets bs at (pack stepWidths (stepValues s))) bs
+
+-- steps' entries one after another, from the k-th on
+unfoldable pub putEntries : List ℕ → ℕ → List PredicateControlStep → List ℕ
+putEntries bs k [] = bs
+putEntries bs k (s ∷ ss) = putEntries (putEntry bs (k * entryBytes) s) (suc k) ss

@@ -1,8 +1,9 @@
-use mathlib.Core.Path.{_≡_, _∙_}
-use Prim.Native.Nat.{_%_}
-use native.Mathlib.Nat.{add-zero, mod-eq-of-lt}
+use mathlib.Core.Path.{_∙_}
+use native.Mathlib.Nat.{add-zero}
 use native.Mathlib.Omega.{arith}
+use denote.Ref.{now}
 use borrow.Author.Needs.{needs}
+use Rattle.little_endian.proofs.SetLaws.{sets-one}
 use Rattle.little_endian.proofs.put_u8.Statement.{statement}
 use Rattle.little_endian.proofs.put_u8.Tie as tie
 
@@ -14,5 +15,4 @@ put-u8-spec =
     (λ c. search needs)
     (λ c.
     let a = c .before .before .before .before .before .args in
-    let m : a .x % 256 ≡ a .x = mod-eq-of-lt (omega arith) in
-    rw m (c .before .before .put-after .ensures ∙ rw add-zero)))
+    c .before .before .put-after .ensures ∙ rw add-zero (sets-one (now (a .s)) (a .at) (a .x) (omega arith))))

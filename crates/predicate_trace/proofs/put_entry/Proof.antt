@@ -1,13 +1,17 @@
+use mathlib.Core.Path.{_∙_}
 use denote.Ref.{now}
 use native.Mathlib.Omega.{arith}
 use borrow.Author.Needs.{needs}
 use borrow.Author.Tests.{le-leb, lt-leb}
-use lib.ListN.{length}
+use lib.ListN.{length, length-set}
 use Prim.Native.Nat.{_+_, _≤_, _<_}
 use Rattle.predicate_trace.specs.Trace.{entryBytes, putEntry}
 use Rattle.predicate_trace.proofs.Entry.{entry-put}
 use Rattle.predicate_trace.proofs.put_entry.Statement.{statement}
 use Rattle.predicate_trace.proofs.put_entry.Tie as tie
+
+one-byte : (c : tie.Start) → c .args .step .«instruction_bytes» < 256
+one-byte c = omega arith
 
 pub put-entry-spec : {M : Type 1} → statement M
 unfolding putEntry
@@ -27,17 +31,20 @@ put-entry-spec =
     (λ c. search needs)
     (λ c κs. search needs)
     (λ c. search needs)
-    (λ c κs. search needs)
     (λ c. search needs)
-    (λ c κs. search needs)
     (λ c. search needs)
+    (λ c κs. simp length-set (omega arith))
     (λ c.
-    let d4 = c .before .before in
-    let d3 = d4 .before .before .before .before in
+    let d3 = c .before .before in
+    let d2 = d3 .before .before .before .before in
+    rw length-set at (d3 .set-word3 .kept .0) ∙ d2 .set-word2 .kept .0 ∙ d2 .before .before .before .before .set-word .kept .0)
+    (λ c.
+    let d3 = c .before .before in
     let d2 = d3 .before .before .before .before in
     let d1 = d2 .before .before .before .before in
     let e = d1 .before .before in
-    let a = e .before .before .before .args in
+    let b = e .before .before .before in
+    let a = b .args in
     let h : a .at + entryBytes ≤ length (now (a .s)) = omega (arith, e .if2 .left, e .before .if1 .left) in
     rw (le-leb _ _ h)
-    (entry-put (now (a .s)) (a .at) (a .step) (d1 .put-u32 .ensures) (d2 .put-u322 .ensures) (d3 .put-u8 .ensures) (d4 .put-u323 .ensures))))
+    (entry-put (now (a .s)) (a .at) (a .step) (one-byte b) (d1 .set-word .ensures) (d2 .set-word2 .ensures) (d3 .set-word3 .ensures))))

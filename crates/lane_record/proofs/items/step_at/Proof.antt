@@ -12,10 +12,10 @@ step-at-spec =
     (λ c. search needs)
     (λ c κs. search needs)
     (λ c. search needs)
-    (λ c κs. search needs)
+    (λ c. search needs)
     (λ c. search needs)
     (λ c κs. search needs)
     (λ c.
-    let c1 = c .before in let c2 = c1 .before in let c3 = c2 .before in
-    let a = c3 .before .before .args in
-    rw (c3 .get-u32 .ensures, c2 .get-u322 .ensures, c1 .get-u8 .ensures, c .get-u323 .ensures) (step-is (now (a .s)) (a .at))))
+    let c1 = c .before .before in let c2 = c1 .before in
+    let a = c2 .before .before .args in
+    rw (c2 .word-at .ensures, c1 .word-at2 .ensures, c .word-at3 .ensures) (step-is (now (a .s)) (a .at))))

@@ -10,6 +10,6 @@ begins-at-spec =
     tie.close
     (tie.spec
     (λ c. omega (arith, room _ _ _ _ (c .before .before .pre) (c .if1 .taken)))
-    (λ c κs. search needs)
-    (λ c. c .get-u32 .ensures ∙ begins-some _ _ _ _ (c .before .if1 .taken))
+    (λ c κs. omega (arith, room _ _ _ _ (c .before .before .pre) (c .if1 .taken)))
+    (λ c. c .word-at .ensures ∙ begins-some _ _ _ _ (c .before .if1 .taken))
     (λ c. let e : c .before .before .args .n ≡ 0 = omega arith in rw e))
