@@ -111,9 +111,9 @@ module _ (image : List ℕ) (symbols : Rv32SymbolLayout) (rows entries : ℕ) wh
         ∙ ap (λ (x : List PredicateControlStep). some (accepted (execution p l s r) (r .events) x)) (ended .trace)
 
   kept-refused : (f : Refusal) → e .answer ≡ Tested.refused f → refusalValid (refusalIn image symbols rows entries s f) ≡ true
-  unfolding standingLaneRun proper
+  unfolding standingLaneRun setup proper
   kept-refused f q =
-      yes {t = proper f} (holds (proper f) (refused-proper p l maxSteps f q)) (le-leb (s .steps) maxSteps (omega (arith, done .bound)))
+      yes {t = proper f} (holds (proper f) (refused-proper p l maxSteps f refl q)) (le-leb (s .steps) maxSteps (omega (arith, done .bound)))
 
   kept : (a : Tested Result) → e .answer ≡ a → (t : List ℕ)
       → given (outcomeIn image symbols rows entries s a) (over (traceBytes (s .trace)) t) ≡ some (recordIn image symbols rows entries s a)

@@ -1,6 +1,6 @@
 -- The registers that the action of a decoded operation reads are below 32, so that they index the run's registers. Assumes nothing.
 use mathlib.Core.Bool.{Bool, _&&_}
-use Prim.Native.Nat.{ℕ, _<_}
+use Prim.Native.Nat.{ℕ}
 use native.Mathlib.Omega.{arith}
 use borrow.Author.Tests.{lt-ltb}
 use lib.Dec.{T, ltb, ltb→lt}
@@ -14,17 +14,13 @@ use Rattle.riscv_decode.specs.Decode.{decodeOf}
 use Rattle.riscv_decode.proofs.Listed.{allLines, decoded-passes}
 use Rattle.predicate_action.specs.declared.Reading.{Reading}
 use Rattle.predicate_action.specs.Meaning.{meaning}
-use Rattle.predicate_action.specs.Reading.{readingOf}
+use Rattle.predicate_action.specs.Reading.{readingOf, ReadsBelow}
 
--- both sources are registers
-abbrev pub Registers : Reading → Type 0
-Registers r = (r .rs1 < 32) × (r .rs2 < 32)
-
--- .. as a test
+-- both sources are registers, as a test
 abbrev registers : Reading → Bool
 registers r = ltb (r .rs1) 32 && ltb (r .rs2) 32
 
-both-below : (r : Reading) → T (registers r) → Registers r
+both-below : (r : Reading) → T (registers r) → ReadsBelow 32 r
 both-below r t = (
   ltb→lt (r .rs1) 32 (and-l (ltb (r .rs1) 32) (ltb (r .rs2) 32) t),
   ltb→lt (r .rs2) 32 (and-r (ltb (r .rs1) 32) (ltb (r .rs2) 32) t),
@@ -36,6 +32,6 @@ unfolding listing operation meaning
 lines-below w pc = rw (lt-ltb (rs1Field w) 32 (omega arith), lt-ltb (rs2Field w) 32 (omega arith)) tt
 
 -- a decoded operation, at any program counter
-pub sources-below : (w pc : ℕ) (o : Operation) → decodeOf w ≡ Known o → Registers (readingOf (meaning o pc))
+pub sources-below : (w pc : ℕ) (o : Operation) → decodeOf w ≡ Known o → ReadsBelow 32 (readingOf (meaning o pc))
 sources-below w pc o d =
     both-below (readingOf (meaning o pc)) (decoded-passes (λ o. registers (readingOf (meaning o pc))) w o (lines-below w pc) d)

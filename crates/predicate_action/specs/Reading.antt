@@ -1,6 +1,6 @@
 -- What an action reads: its sources, and the lane word that it computes of them, which is its result or what is tested of it.
 use mathlib.Core.Bool.{true, false, cond}
-use Prim.Native.Nat.{ℕ}
+use Prim.Native.Nat.{ℕ, _<_}
 use Rattle.rv32_arithmetic.specs.declared.Binary.{Binary}
 use Rattle.rv32_arithmetic.specs.declared.Binary.the-variants.{Add, Target}
 use Rattle.rv32_arithmetic.specs.Value.{valueOf}
@@ -29,6 +29,10 @@ readingOf (JumpTo rd a offset) = withNumber Target a 0 offset
 readingOf (Branch test a b to) = ofSources test a b
 readingOf (Load rd a offset n e) = withNumber Add a 0 offset
 readingOf (Store a b offset n) = withNumber Add a b offset
+
+-- both sources are among the first n registers
+abbrev pub ReadsBelow : ℕ → Reading → Type 0
+ReadsBelow n r = (r .rs1 < n) × (r .rs2 < n)
 
 -- the second operand, where the second source's word is w
 abbrev pub operandOf : Reading → LaneWord → LaneWord

@@ -1,4 +1,4 @@
--- What always holds of a part of the lane run: of the value that it passes, and that a refusal is a proper one.
+-- What always holds of a part of the lane run: P of the value that it passes, and R of its refusal.
 use mathlib.Core.Path.{_≡_, refl}
 use mathlib.Core.Bool.{Bool, true, false}
 use mathlib.Core.Option.{Option, none, some}
@@ -7,44 +7,44 @@ use lib.Dec.{T}
 use Rattle.predicate_semantics.specs.Choice.{choose}
 use Rattle.predicate_semantics.specs.Tested.{Tested, passed, refused, refuse, require, found, _>>=_}
 use Rattle.predicate_answer.specs.Refusal.{Refusal}
-use Rattle.predicate_semantics.specs.RecordRules.{proper}
 
-pub data Always {A : Type 0} (P : A → Type 0) : Tested A → Type 0 where
-  stops : (r : Refusal) → T (proper r) → Always P (refused r)
-  gives : {a : A} → P a → Always P (passed a)
+pub data Always {A : Type 0} (R : Refusal → Type 0) (P : A → Type 0) : Tested A → Type 0 where
+  stops : (r : Refusal) → R r → Always R P (refused r)
+  gives : {a : A} → P a → Always R P (passed a)
 
--- refusals without a role
-abbrev pub Plain : ℕ → Type 0
-Plain number = T (proper (record { number = number; role = 0 }))
+-- the refusal of a number without a role
+abbrev pub plain : ℕ → Refusal
+plain number = record { number = number; role = 0 }
 
-pub bind : {A B : Type 0} {P : A → Type 0} {Q : B → Type 0} {m : Tested A} {f : A → Tested B}
-    → Always P m → ((a : A) → P a → Always Q (f a)) → Always Q (m >>= f)
-unfolding _>>=_
-bind (stops r t) h = stops r t
-bind (gives x) h = h _ x
+module _ {R : Refusal → Type 0} where
+  pub bind : {A B : Type 0} {P : A → Type 0} {Q : B → Type 0} {m : Tested A} {f : A → Tested B}
+      → Always R P m → ((a : A) → P a → Always R Q (f a)) → Always R Q (m >>= f)
+  unfolding _>>=_
+  bind (stops r t) h = stops r t
+  bind (gives x) h = h _ x
 
-pub weaken : {A : Type 0} {P Q : A → Type 0} {m : Tested A} → Always P m → ((a : A) → P a → Q a) → Always Q m
-weaken (stops r t) h = stops r t
-weaken (gives x) h = gives (h _ x)
+  pub weaken : {A : Type 0} {P Q : A → Type 0} {m : Tested A} → Always R P m → ((a : A) → P a → Q a) → Always R Q m
+  weaken (stops r t) h = stops r t
+  weaken (gives x) h = gives (h _ x)
 
-pub always-require : (number : ℕ) (b : Bool) → Plain number → Always (λ _. T b) (require number b)
-unfolding require refuse
-always-require number true t = gives tt
-always-require number false t = stops _ t
+  pub always-require : (number : ℕ) (b : Bool) → R (plain number) → Always R (λ _. T b) (require number b)
+  unfolding require refuse
+  always-require number true t = gives tt
+  always-require number false t = stops _ t
 
-pub always-found : {A : Type 0} (number : ℕ) (o : Option A) → Plain number → Always (λ a. o ≡ some a) (found number o)
-unfolding found refuse
-always-found number none t = stops _ t
-always-found number (some a) t = gives refl
+  pub always-found : {A : Type 0} (number : ℕ) (o : Option A) → R (plain number) → Always R (λ a. o ≡ some a) (found number o)
+  unfolding found refuse
+  always-found number none t = stops _ t
+  always-found number (some a) t = gives refl
 
-pub always-choose : {A : Type 0} {P : A → Type 0} (b : Bool) {f g : Unit {0} → Tested A}
-    → ((u : Unit {0}) → Always P (f u)) → ((u : Unit {0}) → Always P (g u)) → Always P (choose b f g)
-unfolding choose
-always-choose true x y = x tt
-always-choose false x y = y tt
+  pub always-choose : {A : Type 0} {P : A → Type 0} (b : Bool) {f g : Unit {0} → Tested A}
+      → ((u : Unit {0}) → Always R P (f u)) → ((u : Unit {0}) → Always R P (g u)) → Always R P (choose b f g)
+  unfolding choose
+  always-choose true x y = x tt
+  always-choose false x y = y tt
 
-pub passes : {A : Type 0} {P : A → Type 0} {a : A} → Always P (passed a) → P a
-passes (gives x) = x
+  pub passes : {A : Type 0} {P : A → Type 0} {a : A} → Always R P (passed a) → P a
+  passes (gives x) = x
 
-pub refuses : {A : Type 0} {P : A → Type 0} {r : Refusal} → Always P (refused r) → T (proper r)
-refuses (stops r t) = t
+  pub refuses : {A : Type 0} {P : A → Type 0} {r : Refusal} → Always R P (refused r) → R r
+  refuses (stops r t) = t

@@ -9,6 +9,7 @@ pub mod Laws
 pub mod Computing
 pub mod Cases
 pub mod Bound
+pub mod Order
 pub mod Limits
 pub mod Always
 pub mod Written

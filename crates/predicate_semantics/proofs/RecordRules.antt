@@ -1,7 +1,7 @@
 -- The record's rules hold of every run.
 use mathlib.Core.Path.{_≡_, refl, sym, _∙_, subst}
 use mathlib.Core.Bool.{Bool, true, false, _&&_, cond}
-use mathlib.Core.Logic.{_⊎_, inl, inr}
+use mathlib.Core.Logic.{_⊎_, inl, inr, ⊎-elim}
 use mathlib.Core.List.{List, [], _∷_, _++_, map}
 use Prim.Native.Nat.{ℕ, zero, suc, _+_, _-_, _≤_, _<_, _%_, _^_}
 use native.Mathlib.Nat.{le-trans}
@@ -31,13 +31,16 @@ use Rattle.predicate_semantics.specs.State.{Result, Effect, goes, sets, 
 use Rattle.predicate_semantics.specs.Memory.{Written, LaneBytes, put, read, write}
 use Rattle.predicate_semantics.specs.Tested.{Tested, passed, refused, refuse, _>>=_}
 use Rattle.predicate_answer.specs.Refusal.{Refusal}
-use Rattle.predicate_semantics.specs.Lane.{LaneState, Setup, Ended, on, inside, laneCount, memoryOf, agreedAs, agreed, reg, access, accessAgreed, startTests, roomFor, decodeWord, expandHalfword, fetchFour, fetch, eventAt, execute, attempt, step, events, finishEvents, finish, run, begin, start, laneRun}
+use Rattle.predicate_semantics.specs.Lane.{LaneState, Setup, Ended, on, inside, laneCount, memoryOf, agreedAs, agreed, reg, access, accessAgreed, roomFor, decodeWord, expandHalfword, fetchFour, fetch, eventAt, execute, attempt, step, events, finishEvents, finish, run, begin, start, laneRun}
 use Rattle.predicate_semantics.specs.Standing.{standingCore, standing, setup, standingLaneRun}
+use Rattle.predicate_semantics.specs.Order.{StartOrder}
+use Rattle.predicate_semantics.specs.Kept.{Distinct, Sized, Stored, Traced, Kept}
 use Rattle.predicate_semantics.specs.RecordRules.{Chain, Words, ExpandsToWords, Completed, Accepted, TakesStep, proper}
 use Rattle.predicate_semantics.proofs.Lists.{both-left, both-right}
 use Rattle.predicate_semantics.proofs.Laws.{run-stop, steps-apply, write-grows}
+use Rattle.predicate_semantics.proofs.Order.{start-order}
 use Rattle.predicate_semantics.proofs.Always.{Always, stops, gives, bind, weaken, always-require, always-found, always-choose, passes, refuses}
-use Rattle.predicate_semantics.proofs.Written.{Distinct, distinct-none, distinct-write, distinct-fits}
+use Rattle.predicate_semantics.proofs.Written.{distinct-none, distinct-write, distinct-fits}
 
 -- a trace goes on from where it leads
 chain-add : (from to : ℕ) (t : List PredicateControlStep) (c : PredicateControlStep) → Chain from t to → c .«program_counter» ≡ to
@@ -78,6 +81,11 @@ unfolding choose
 either-fits true x y h g = h
 either-fits false x y h g = g
 
+-- a test that passed
+abbrev Passes : {A : Type 0} → Tested A → Type 0
+Passes (passed a) = Unit {0}
+Passes (refused r) = ⊥
+
 -- a step adds at most one location
 recorded-few : (c pc a n : ℕ) (ls : List ℕ) → length (recorded c pc a n ls) ≤ suc (length ls)
 unfolding recorded choose
@@ -88,11 +96,7 @@ recorded-few c pc a n ls = go (eqb n 4 && eqb a c)
     go false = omega arith
 
 module _ (p : Program) (l : Setup) where
-  -- no refusal 1
-  abbrev pub Sized : Type 0
-  Sized = (0 < length (p .image)) × (length (p .image) ≤ maxImageBytes)
-
-  fit : T (sized (length (p .image))) → Sized
+  fit : T (sized (length (p .image))) → Sized p l
   unfolding sized
   fit t =
       let some : Bool = ltb 0 (length (p .image)) in
@@ -107,28 +111,6 @@ module _ (p : Program) (l : Setup) where
       let in-memory : Bool = leb imageBase e && ltb e memoryEnd in
       omega (arith, ltb→lt e memoryEnd (both-right (leb imageBase e) (ltb e memoryEnd) (both-left in-memory _ (both-left (in-memory && _) _ t))))
 
-  -- written bytes past the image, in memory, stop's among them, and no more than there are rows
-  pub record Stored (ws : List Written) : Type 0 where
-    pub least : 4 ≤ length ws
-    pub most : length ws ≤ l .rows
-    pub distinct : Distinct (imageEnd p) memoryEnd ws
-
-  -- the trace of every run
-  pub record Traced (s : LaneState) : Type 0 where
-    pub counted : length (s .trace) ≡ s .steps
-    pub entered : s .steps ≤ l .entries
-    pub chained : Chain (p .symbols .entry) (s .trace) (s .pc)
-    pub words : ExpandsToWords (p .core) → Words (s .trace)
-
-  -- what every step keeps, once a run has started
-  pub record Kept (s : LaneState) : Type 0 where
-    pub fits : Sized
-    pub small : s .pc < 2 ^ 32
-    pub traced : Traced s
-    pub stored : Stored (s .memory)
-    -- at most one location for a step
-    pub located : length (s .locations) ≤ s .steps
-
   -- a fetched instruction
   record Short (f : Fetched) : Type 0 where
     size : (f .length ≡ 2) ⊎ (f .length ≡ 4)
@@ -141,18 +123,18 @@ module _ (p : Program) (l : Setup) where
   Clear s (stores a n value next) =
       (next < 2 ^ 32) × (imageEnd p ≤ a) × (a + n ≤ memoryEnd) × (length (write (s .memory) n a value) ≤ l .rows)
 
-  pub room : {ws : List Written} → Sized → Distinct (imageEnd p) memoryEnd ws → length ws < maxMemoryBytes
+  pub room : {ws : List Written} → Sized p l → Distinct (imageEnd p) memoryEnd ws → length ws < maxMemoryBytes
   room {ws} h d =
       omega (arith, distinct-fits (imageEnd p) (maxMemoryBytes - length (p .image)) ws (subst (λ (x : ℕ). Distinct (imageEnd p) x ws) (omega arith) d))
 
   -- a step from a kept state that has a trace entry
   record Enters (s : LaneState) (f : Fetched) : Type 0 where
-    kept : Kept s
+    kept : Kept p l s
     instruction : Short f
     lent : s .steps < l .entries
 
   kept-advanced : {s : LaneState} {f : Fetched} {next : ℕ} (registers : List LaneWord) {ws : List Written} (locations : List ℕ)
-      → Enters s f → next < 2 ^ 32 → Stored ws → length locations ≤ suc (length (s .locations)) → Kept (advanced s f next registers ws locations)
+      → Enters s f → next < 2 ^ 32 → Stored p l ws → length locations ≤ suc (length (s .locations)) → Kept p l (advanced s f next registers ws locations)
   unfolding advanced
   kept-advanced {s} registers locations h n stored few = record {
     fits = h .kept .fits;
@@ -167,7 +149,7 @@ module _ (p : Program) (l : Setup) where
     located = omega (arith, few, h .kept .located);
   }
 
-  kept-apply : {s : LaneState} {f : Fetched} (e : Effect LaneWord) → Enters s f → Clear s e → Kept (apply write (p .symbols .«event_count») s f e)
+  kept-apply : {s : LaneState} {f : Fetched} (e : Effect LaneWord) → Enters s f → Clear s e → Kept p l (apply write (p .symbols .«event_count») s f e)
   unfolding apply
   kept-apply (goes next) h c = kept-advanced _ _ h c (h .kept .stored) (omega arith)
   kept-apply (sets rd value next) h c = kept-advanced _ _ h c (h .kept .stored) (omega arith)
@@ -177,54 +159,58 @@ module _ (p : Program) (l : Setup) where
     distinct = distinct-write n a value (c .1) (c .2) (h .kept .stored .distinct);
   }) (recorded-few (p .symbols .«event_count») (s .pc) a n (s .locations))
 
+  -- a refusal that a record can hold, or the caller's choice
+  abbrev Proper : Refusal → Type 0
+  Proper r = T (proper r) ⊎ (l .choice ≡ refused r)
+
   -- the value that lanes agree on is lane 0's
-  always-agreed : (role : ℕ) (w : LaneWord) → T (leb 1 role && leb role 10) → Always (λ v. v ≡ getD (w .values) 0 0) (agreed role w)
+  always-agreed : (role : ℕ) (w : LaneWord) → T (leb 1 role && leb role 10) → Always Proper (λ v. v ≡ getD (w .values) 0 0) (agreed role w)
   unfolding agreed uniformOf refuse proper
   always-agreed role w t = go (w .known) (every (getD (w .values) 0 0) (w .values))
     where
       go : (b c : Bool)
-          → Always (λ v. v ≡ getD (w .values) 0 0) (agreedAs role (cond b (cond c (Value (getD (w .values) 0 0)) Uneven) Unknown))
+          → Always Proper (λ v. v ≡ getD (w .values) 0 0) (agreedAs role (cond b (cond c (Value (getD (w .values) 0 0)) Uneven) Unknown))
       go true true = gives refl
-      go true false = stops _ t
-      go false c = stops _ t
+      go true false = stops _ (inl t)
+      go false c = stops _ (inl t)
 
-  always-inside : (a n : ℕ) → Always (λ _. a + n ≤ memoryEnd) (inside a n)
+  always-inside : (a n : ℕ) → Always Proper (λ _. a + n ≤ memoryEnd) (inside a n)
   unfolding inside proper
   always-inside a n =
-      bind (always-require 4 _ tt) (λ u t.
-      weaken (always-require 5 _ tt) (λ u t. leb→le _ _ t))
+      bind (always-require 4 _ (inl tt)) (λ u t.
+      weaken (always-require 5 _ (inl tt)) (λ u t. leb→le _ _ t))
 
-  always-roomFor : (end rows a n written : ℕ) → Always (λ _. (end ≤ a) × (a + n ≤ memoryEnd) × (written ≤ rows)) (roomFor end rows a n written)
+  always-roomFor : (end rows a n written : ℕ) → Always Proper (λ _. (end ≤ a) × (a + n ≤ memoryEnd) × (written ≤ rows)) (roomFor end rows a n written)
   unfolding roomFor proper
   always-roomFor end rows a n written =
       bind (always-inside a n) (λ u high.
-      bind (always-require 11 _ tt) (λ u low.
-      weaken (always-require 13 _ tt) (λ u few. (leb→le _ _ low, high, leb→le _ _ few))))
+      bind (always-require 11 _ (inl tt)) (λ u low.
+      weaken (always-require 13 _ (inl tt)) (λ u few. (leb→le _ _ low, high, leb→le _ _ few))))
 
-  always-access : (m : LaneBytes) (n a : ℕ) → Always (λ w. w ≡ read (length (l .inputs)) m n a) (access (l .inputs) m n a)
+  always-access : (m : LaneBytes) (n a : ℕ) → Always Proper (λ w. w ≡ read (laneCount p l) m n a) (access (laneCount p l) m n a)
   unfolding access
   always-access m n a = bind (always-inside a n) (λ u t. gives refl)
 
   always-accessAgreed : (role : ℕ) (m : LaneBytes) (n a : ℕ) → T (leb 1 role && leb role 10)
-      → Always (λ v. v < 2 ^ 32) (accessAgreed (l .inputs) role m n a)
+      → Always Proper (λ v. v < 2 ^ 32) (accessAgreed (laneCount p l) role m n a)
   unfolding accessAgreed
   always-accessAgreed role m n a t =
       bind (always-access m n a) (λ w e.
-      weaken (always-agreed role w t) (λ v f. rw (f, e) (first-read (length (l .inputs)) m n a)))
+      weaken (always-agreed role w t) (λ v f. rw (f, e) (first-read (laneCount p l) m n a)))
 
-  always-decodeWord : (steps word n : ℕ) → (n ≡ 2) ⊎ (n ≡ 4) → (ExpandsToWords (p .core) → word < 2 ^ 32) → Always Short (decodeWord (p .core) steps word n)
+  always-decodeWord : (steps word n : ℕ) → (n ≡ 2) ⊎ (n ≡ 4) → (ExpandsToWords (p .core) → word < 2 ^ 32) → Always Proper Short (decodeWord (p .core) steps word n)
   unfolding decodeWord proper
-  always-decodeWord steps word n h x = bind (always-found 9 _ tt) (λ operation _. gives (record { size = h; word-fits = x }))
+  always-decodeWord steps word n h x = bind (always-found 9 _ (inl tt)) (λ operation _. gives (record { size = h; word-fits = x }))
 
-  always-fetch : (m : LaneBytes) (steps pc : ℕ) → Always Short (fetch (l .inputs) (p .core) m steps pc)
+  always-fetch : (m : LaneBytes) (steps pc : ℕ) → Always Proper Short (fetch (laneCount p l) (p .core) m steps pc)
   unfolding fetch fetchFour expandHalfword proper
   always-fetch m steps pc =
       bind (always-accessAgreed 1 m 2 pc tt) (λ half _.
       always-choose (eqb (half % 4) 3)
       (λ _. bind (always-accessAgreed 1 m 4 pc tt) (λ word h. always-decodeWord steps word 4 (inr refl) (λ x. h)))
-      (λ _. bind (always-found 8 (p .core .expand half) tt) (λ word e. always-decodeWord steps word 2 (inl refl) (λ x. x half word e))))
+      (λ _. bind (always-found 8 (p .core .expand half) (inl tt)) (λ word e. always-decodeWord steps word 2 (inl refl) (λ x. x half word e))))
 
-  always-execute : (s : LaneState) (next : ℕ) (d : Action) → next < 2 ^ 32 → Leads d → Always (Clear s) (execute p l s next d)
+  always-execute : (s : LaneState) (next : ℕ) (d : Action) → next < 2 ^ 32 → Leads d → Always Proper (Clear s) (execute p l s next d)
   unfolding execute proper unary
   always-execute s next Nothing h g = gives h
   always-execute s next (Literal rd v) h g = gives h
@@ -233,7 +219,7 @@ module _ (p : Program) (l : Setup) where
   always-execute s next (Jump rd to) h g = gives g
   always-execute s next (JumpTo rd a offset) h g =
       bind (always-agreed 2 _ tt) (λ to e.
-      bind (always-require 10 _ tt) (λ u t. gives (rw e (first-target offset ((reg p l s a) .values)))))
+      bind (always-require 10 _ (inl tt)) (λ u t. gives (rw e (first-target offset ((reg p l s a) .values)))))
   always-execute s next (Branch f a b to) h g = bind (always-agreed 5 _ tt) (λ direction _. gives (either-fits (eqb direction 0) next to h g))
   always-execute s next (Load rd a offset n e) h g =
       bind (always-agreed 3 _ tt) (λ address _.
@@ -242,20 +228,20 @@ module _ (p : Program) (l : Setup) where
       bind (always-agreed 4 _ tt) (λ address _.
       bind (always-roomFor (imageEnd p) (l .rows) address n _) (λ u room. gives (h, room .0, room .1, room .2)))
 
-  always-attempt : (s : LaneState) → Always (λ (seen : Attempted LaneWord). Short (seen .fetched) × Clear s (seen .effect)) (attempt p l s)
+  always-attempt : (s : LaneState) → Always Proper (λ (seen : Attempted LaneWord). Short (seen .fetched) × Clear s (seen .effect)) (attempt p l s)
   unfolding attempt
   always-attempt s =
       bind (always-fetch _ _ _) (λ fetched b.
       bind (always-execute s _ _ (omega arith) (meaning-leads (fetched .operation) (s .pc))) (λ effect c. gives (b, c)))
 
-  always-step : (s : LaneState) → Kept s → Always (λ t. Kept t × (t .steps ≡ suc (s .steps))) (step p l s)
+  always-step : (s : LaneState) → Kept p l s → Always Proper (λ t. Kept p l t × (t .steps ≡ suc (s .steps))) (step p l s)
   unfolding step proper
   always-step s k =
       bind (always-attempt s) (λ seen h.
-      bind (always-require 14 _ tt) (λ u t.
+      bind (always-require 14 _ (inl tt)) (λ u t.
       gives (kept-apply (seen .effect) (record { kept = k; instruction = h .0; lent = ltb→lt _ _ t }) (h .1), steps-apply write _ s (seen .fetched) (seen .effect))))
 
-  always-eventAt : (m : LaneBytes) (a location : ℕ) → Always (λ _. Unit {0}) (eventAt (l .inputs) m a location)
+  always-eventAt : (m : LaneBytes) (a location : ℕ) → Always Proper (λ _. Unit {0}) (eventAt (laneCount p l) m a location)
   unfolding eventAt
   always-eventAt m a location =
       bind (always-accessAgreed 8 m 4 a tt) (λ o _.
@@ -263,7 +249,7 @@ module _ (p : Program) (l : Setup) where
       bind (always-accessAgreed 10 m 4 _ tt) (λ v _. gives tt)))
 
   always-events : (from : ℕ) (m : LaneBytes) (i : ℕ) (done : List CompiledMmioEvent) (ls : List ℕ)
-      → Always (λ es. length es ≡ length done + length ls) (events (l .inputs) from m i done ls)
+      → Always Proper (λ es. length es ≡ length done + length ls) (events (laneCount p l) from m i done ls)
   unfolding events
   always-events from m i done [] = gives {a = done} (omega arith)
   always-events from m i done (x ∷ ls) =
@@ -277,12 +263,12 @@ module _ (p : Program) (l : Setup) where
     few : length (r .events) ≤ maxEvents
     as-located : length (r .events) ≡ length (s .locations)
 
-  always-finish : (s : LaneState) → Always (Answered s) (finish p l s)
+  always-finish : (s : LaneState) → Always Proper (Answered s) (finish p l s)
   unfolding finish finishEvents proper
   always-finish s =
       bind (always-agreed 6 _ tt) (λ value _.
       bind (always-accessAgreed 7 (memoryOf p l s) 4 _ tt) (λ count _.
-      bind (always-require 12 _ tt) (λ u t.
+      bind (always-require 12 _ (inl tt)) (λ u t.
       bind (always-events _ (memoryOf p l s) 0 [] (s .locations)) (λ es e. gives (record {
         same-steps = refl;
         same-trace = refl;
@@ -302,9 +288,9 @@ module _ (p : Program) (l : Setup) where
   -- what holds where a run ends: of its trace, its steps, and an answer at stop
   abbrev Ends : ℕ → Ended → Type 0
   Ends most e =
-      Traced (e .state)
+      Traced p l (e .state)
       × (e .state .steps ≤ most)
-      × Always (λ r. Kept (e .state) × Answered (e .state) r × (e .state .pc ≡ stop)) (e .answer)
+      × Always Proper (λ r. Kept p l (e .state) × Answered (e .state) r × (e .state .pc ≡ stop)) (e .answer)
 
   ends-choose : (most : ℕ) (b : Bool) (f g : Unit {0} → Ended) → (b ≡ true → Ends most (f tt)) → (b ≡ false → Ends most (g tt))
       → Ends most (choose b f g)
@@ -313,28 +299,28 @@ module _ (p : Program) (l : Setup) where
   ends-choose most false f g x y = y refl
 
   ends-on : {P : LaneState → Type 0} (most : ℕ) {s : LaneState} {m : Tested LaneState} (f : LaneState → Ended)
-      → Traced s → s .steps ≤ most → Always P m → ((t : LaneState) → P t → Ends most (f t)) → Ends most (on s m f)
+      → Traced p l s → s .steps ≤ most → Always Proper P m → ((t : LaneState) → P t → Ends most (f t)) → Ends most (on s m f)
   unfolding on
   ends-on most f k b (stops r t) h = (k, b, stops r t)
   ends-on most f k b (gives x) h = h _ x
 
-  ends-stop : (most : ℕ) (s : LaneState) → Kept s → s .steps ≤ most → eqb (s .pc) stop ≡ true
+  ends-stop : (most : ℕ) (s : LaneState) → Kept p l s → s .steps ≤ most → eqb (s .pc) stop ≡ true
       → Ends most (record { state = s; answer = finish p l s })
   ends-stop most s k b e = (k .traced, b, weaken (always-finish s) (λ r a. (k, a, eqb-true _ _ e)))
 
-  ends-run : (n most : ℕ) (s : LaneState) → Kept s → s .steps + n ≤ most → Ends most (run p l n s)
+  ends-run : (n most : ℕ) (s : LaneState) → Kept p l s → s .steps + n ≤ most → Ends most (run p l n s)
   unfolding run refuse proper
   ends-run zero most s k b =
-      ends-choose most (eqb (s .pc) stop) _ _ (ends-stop most s k (omega arith)) (λ e. (k .traced, omega arith, stops _ tt))
+      ends-choose most (eqb (s .pc) stop) _ _ (ends-stop most s k (omega arith)) (λ e. (k .traced, omega arith, stops _ (inl tt)))
   ends-run (suc n) most s k b =
       ends-choose most (eqb (s .pc) stop) _ _ (ends-stop most s k (omega arith))
       (λ e. ends-on most _ (k .traced) (omega arith) (always-step s k) (λ t h. ends-run n most t (h .0) (omega (arith, h .1))))
 
-  begin-traced : Traced (begin p l)
+  begin-traced : Traced p l (begin p l)
   unfolding begin
   begin-traced = record { counted = refl; entered = omega arith; chained = refl; words = λ x. tt }
 
-  begin-kept : Sized → p .symbols .entry < 2 ^ 32 → 4 ≤ l .rows → Kept (begin p l)
+  begin-kept : Sized p l → p .symbols .entry < 2 ^ 32 → 4 ≤ l .rows → Kept p l (begin p l)
   unfolding begin
   begin-kept h small rows = record {
     fits = h;
@@ -353,21 +339,27 @@ module _ (p : Program) (l : Setup) where
       → execute p l s next (meaning o pc) ≡ passed e → Clear s e
   effect-clear s next pc o h q = passes (rw q at (always-execute s next (meaning o pc) h (meaning-leads o pc)))
 
-  pub kept-step : (s t : LaneState) → Kept s → step p l s ≡ passed t → Kept t
+  pub kept-step : (s t : LaneState) → Kept p l s → step p l s ≡ passed t → Kept p l t
   kept-step s t k q = passes (rw q at (always-step s k)) .0
 
-  always-startTests : Always (λ _. Sized × (p .symbols .entry < 2 ^ 32) × (4 ≤ l .rows)) (startTests (length (p .image)) (p .symbols) (l .rows))
-  unfolding startTests proper
-  always-startTests =
-      bind (always-require 1 _ tt) (λ u small.
-      bind (always-require 2 _ tt) (λ u within.
-      weaken (always-require 13 _ tt) (λ u rows. (fit small, entry-fits within, omega (arith, leb→le _ (l .rows) rows)))))
+  always-start : Always Proper (λ s. Kept p l s × (s ≡ begin p l)) (start p l)
+  unfolding refuse proper
+  always-start = go (sized (length (p .image))) (symbolsPlaced (p .symbols)) (l .choice) (leb 4 (l .rows)) refl refl refl refl
+    where
+      order : StartOrder p l
+      order = start-order p l
 
-  always-start : Always (λ s. Kept s × (s ≡ begin p l)) (start p l)
-  unfolding start
-  always-start = bind always-startTests (λ u h. gives (begin-kept (h .0) (h .1) (h .2), refl))
+      go : (a b : Bool) (t : Tested (Unit {0})) (d : Bool) → sized (length (p .image)) ≡ a → symbolsPlaced (p .symbols) ≡ b → l .choice ≡ t → leb 4 (l .rows) ≡ d
+          → Always Proper (λ s. Kept p l s × (s ≡ begin p l)) (start p l)
+      go false b t d e f c r = rw (order .image e) (stops _ (inl tt))
+      go true false t d e f c r = rw (order .symbols e f) (stops _ (inl tt))
+      go true true (refused q) d e f c r = rw (order .choice e f q c) (stops q (inr c))
+      go true true (passed u) false e f c r = rw (order .rows e f c r) (stops _ (inl tt))
+      go true true (passed u) true e f c r =
+          rw (order .none e f c r)
+          (gives (begin-kept (fit (subst T (sym e) tt)) (entry-fits (subst T (sym f) tt)) (leb→le 4 (l .rows) (subst T (sym r) tt)), refl))
 
-  pub kept-start : (s : LaneState) → start p l ≡ passed s → Kept s × (s ≡ begin p l)
+  pub kept-start : (s : LaneState) → start p l ≡ passed s → Kept p l s × (s ≡ begin p l)
   kept-start s q = passes (rw q at always-start)
 
   ends-laneRun : (limit : ℕ) → Ends limit (laneRun p l limit)
@@ -378,13 +370,13 @@ module _ (p : Program) (l : Setup) where
   pub completed : (limit : ℕ) → Completed p l limit ((laneRun p l limit) .state)
   completed limit = shown _ (ends-laneRun limit .0) (ends-laneRun limit .1)
     where
-      shown : (s : LaneState) → Traced s → s .steps ≤ limit → Completed p l limit s
+      shown : (s : LaneState) → Traced p l s → s .steps ≤ limit → Completed p l limit s
       shown s t b = record { counted = t .counted; lent = t .entered; bound = b; chain = t .chained; words = t .words }
 
   pub accepted : (limit : ℕ) (r : Result) → (laneRun p l limit) .answer ≡ passed r → Accepted l ((laneRun p l limit) .state) r
   accepted limit r e = shown _ (passes (rw e at (ends-laneRun limit .2)))
     where
-      shown : (s : LaneState) → Kept s × Answered s r × (s .pc ≡ stop) → Accepted l s r
+      shown : (s : LaneState) → Kept p l s × Answered s r × (s .pc ≡ stop) → Accepted l s r
       shown s (k, a, at) = record {
         steps = a .same-steps;
         trace = a .same-trace;
@@ -395,8 +387,9 @@ module _ (p : Program) (l : Setup) where
         lent = k .stored .most;
       }
 
-  pub refused-proper : (limit : ℕ) (r : Refusal) → (laneRun p l limit) .answer ≡ refused r → T (proper r)
-  refused-proper limit r e = refuses (rw e at (ends-laneRun limit .2))
+  -- where the caller's choice passed
+  pub refused-proper : (limit : ℕ) (r : Refusal) → l .choice ≡ passed tt → (laneRun p l limit) .answer ≡ refused r → T (proper r)
+  refused-proper limit r c e = ⊎-elim (λ t. t) (λ q. absurd (subst Passes (sym c ∙ q) tt)) (refuses (rw e at (ends-laneRun limit .2)))
 
 -- x10 is the input: at entry = stop the return value is not uniform
 uneven : (image : List ℕ) (symbols : Rv32SymbolLayout) (rows entries : ℕ)
@@ -404,17 +397,17 @@ uneven : (image : List ℕ) (symbols : Rv32SymbolLayout) (rows entries : ℕ)
 unfolding finish begin standing setup standingCore fill atStart choose reg agreed every uniformOf domain inputs refuse _>>=_ laneCount constant unknown
 uneven image symbols rows entries = refl
 
-always-on : {P : LaneState → Type 0} {Q : Result → Type 0} (s : LaneState) {m : Tested LaneState} (f : LaneState → Ended)
-    → Always P m → ((t : LaneState) → P t → Always Q (f t .answer)) → Always Q (on s m f .answer)
+always-on : {R : Refusal → Type 0} {P : LaneState → Type 0} {Q : Result → Type 0} (s : LaneState) {m : Tested LaneState} (f : LaneState → Ended)
+    → Always R P m → ((t : LaneState) → P t → Always R Q (f t .answer)) → Always R Q (on s m f .answer)
 unfolding on
 always-on s f (stops r t) h = stops r t
 always-on s f (gives k) h = h _ k
 
 refused-at-stop : (image : List ℕ) (symbols : Rv32SymbolLayout) (rows entries : ℕ) → eqb (symbols .entry) stop ≡ true
-    → Always (λ _. ⊥) (standingLaneRun image symbols rows entries .answer)
+    → Always (Proper (standing image symbols) (setup rows entries)) (λ _. ⊥) (standingLaneRun image symbols rows entries .answer)
 unfolding standingLaneRun laneRun begin standing refuse proper
 refused-at-stop image symbols rows entries b =
-    always-on _ _ (always-start p l) (λ t h. rw (h .1, run-stop p l maxSteps (begin p l) b, uneven image symbols rows entries) (stops _ tt))
+    always-on _ _ (always-start p l) (λ t h. rw (h .1, run-stop p l maxSteps (begin p l) b, uneven image symbols rows entries) (stops _ (inl tt)))
   where
     p : Program
     p = standing image symbols

@@ -53,11 +53,9 @@ sim-require number true = agrees refl
 sim-require number false = stops
 
 -- a last test that only the lane run makes
-pub sim-last : (number : ℕ) (b : Bool) {m : Tested (Unit {0})} {o : Option (Unit {0})} → Sim _≡_ m o
-    → Sim _≡_ (Lane._>>=_ m (λ _. require number b)) o
-unfolding require refuse
-sim-last number true s = bind-into s (λ u v e. agrees refl)
-sim-last number false s = bind-into s (λ u v e. stops)
+pub sim-last : (m : Tested (Unit {0})) (v : Unit {0}) → Sim _≡_ m (some v)
+sim-last (passed u) v = agrees refl
+sim-last (refused r) v = stops
 
 pub sim-found : {A : Type 0} (number : ℕ) (o : Option A) → Sim _≡_ (found number o) o
 unfolding found refuse

@@ -40,11 +40,12 @@ sim-inside a n = bind-same (sim-require 4 (leb imageBase a)) (λ _. sim-require 
 
 sim-roomFor : (end rows a n written : ℕ) → Sim _≡_ (Lane.roomFor end rows a n written) (Scalar.roomFor end a n)
 unfolding Lane.roomFor Scalar.roomFor
-sim-roomFor end rows a n written = bind-same (sim-inside a n) (λ _. sim-last 13 _ (sim-require 11 _))
+sim-roomFor end rows a n written = bind-same (sim-inside a n) (λ _. bind-into (sim-require 11 _) (λ u v e. sim-last _ v))
 
-sim-startTests : (size : ℕ) (symbols : Rv32SymbolLayout) (rows : ℕ) → Sim _≡_ (Lane.startTests size symbols rows) (Scalar.startTests size symbols)
+sim-startTests : (size : ℕ) (symbols : Rv32SymbolLayout) (choice : Tested (Unit {0})) (rows : ℕ)
+    → Sim _≡_ (Lane.startTests size symbols choice rows) (Scalar.startTests size symbols)
 unfolding Lane.startTests Scalar.startTests
-sim-startTests size symbols rows = bind-same (sim-require 1 _) (λ _. sim-last 13 _ (sim-require 2 _))
+sim-startTests size symbols choice rows = bind-same (sim-require 1 _) (λ _. bind-into (sim-require 2 _) (λ u v e. bind-lane _ (λ _. sim-last _ v)))
 
 module _ {p : Program} {l : Setup} (x : OneLane p l) where
   -- registers and memory of a scalar run, as the lane has those of a lane state
@@ -68,15 +69,15 @@ module _ {p : Program} {l : Setup} (x : OneLane p l) where
     abbrev bytes : LaneBytes
     bytes = laneBytes (p .image) (length (l .inputs)) ws
 
-    sim-access : (n a : ℕ) → Sim (In x) (Lane.access (l .inputs) bytes n a) (Scalar.access m n a)
+    sim-access : (n a : ℕ) → Sim (In x) (Lane.access (length (l .inputs)) bytes n a) (Scalar.access m n a)
     unfolding Lane.access Scalar.access
     sim-access n a = bind-same (sim-inside a n) (λ _. agrees (at-read x mem n a))
 
-    sim-accessAgreed : (role n a : ℕ) → Sim _≡_ (Lane.accessAgreed (l .inputs) role bytes n a) (Scalar.access m n a)
+    sim-accessAgreed : (role n a : ℕ) → Sim _≡_ (Lane.accessAgreed (length (l .inputs)) role bytes n a) (Scalar.access m n a)
     unfolding Lane.accessAgreed
     sim-accessAgreed role n a = bind-into (sim-access n a) (λ w v h. sim-agreed role h)
 
-    sim-eventAt : (a location : ℕ) → Sim _≡_ (Lane.eventAt (l .inputs) bytes a location) (Scalar.eventAt m a location)
+    sim-eventAt : (a location : ℕ) → Sim _≡_ (Lane.eventAt (length (l .inputs)) bytes a location) (Scalar.eventAt m a location)
     unfolding Lane.eventAt Scalar.eventAt
     sim-eventAt a location =
         bind-same (sim-accessAgreed 8 4 a) (λ o.
@@ -84,7 +85,7 @@ module _ {p : Program} {l : Setup} (x : OneLane p l) where
         bind-same (sim-accessAgreed 10 4 _) (λ v. agrees refl)))
 
     sim-events : (from i : ℕ) (done : List CompiledMmioEvent) (ls : List ℕ)
-        → Sim _≡_ (Lane.events (l .inputs) from bytes i done ls) (Scalar.events from m i done ls)
+        → Sim _≡_ (Lane.events (length (l .inputs)) from bytes i done ls) (Scalar.events from m i done ls)
     unfolding Lane.events Scalar.events
     sim-events from i done [] = agrees refl
     sim-events from i done (location ∷ ls) = bind-same (sim-eventAt _ location) (λ e. sim-events from (suc i) _ ls)
@@ -94,7 +95,7 @@ module _ {p : Program} {l : Setup} (x : OneLane p l) where
     unfolding Lane.decodeWord Scalar.decodeWord
     sim-decodeWord word n = bind-same (sim-found 9 _) (λ operation. agrees refl)
 
-    sim-fetch : Sim _≡_ (Lane.fetch (l .inputs) (p .core) (Lane.memoryOf p l s) (s .steps) (s .pc)) (Scalar.fetch p (view s rs m))
+    sim-fetch : Sim _≡_ (Lane.fetch (laneCount p l) (p .core) (Lane.memoryOf p l s) (s .steps) (s .pc)) (Scalar.fetch p (view s rs m))
     unfolding Lane.fetch Scalar.fetch Lane.fetchFour Scalar.fetchFour Lane.expandHalfword Scalar.expandHalfword Lane.memoryOf laneCount
     sim-fetch = bind-same (sim-accessAgreed (h .mem) 1 2 _) (λ half.
         sim-choose (eqb (half % 4) 3)
@@ -185,7 +186,7 @@ module _ {p : Program} {l : Setup} (x : OneLane p l) where
   sim-start : (others : ℕ → ℕ) → Sim (Related) (Lane.start p l) (Scalar.start p (x .input) others)
   unfolding Lane.start Scalar.start Lane.begin laneCount
   sim-start others =
-      bind-same (sim-startTests _ _ _) (λ _. agrees (related (record {
+      bind-same (sim-startTests _ _ _ _) (λ _. agrees (related (record {
         regs = regs-fill _ 0 _ _ (at-start (at-constant x 0) (at-constant x stop) (at-constant x stackPointer) (at-domain x) (λ j. at-unknown _ (x .number) _));
         mem = mem-write x 4 (mem-initial x) stop (at-constant x stopWord);
       })))

@@ -12,18 +12,7 @@ use Rattle.rv32_arithmetic.specs.Arithmetic.{flag}
 use Rattle.lane_word.specs.declared.LaneWord.{LaneWord}
 use Rattle.predicate_semantics.specs.Choice.{choose}
 use Rattle.predicate_semantics.specs.Memory.{Written, put, write}
-
--- the sum of a weight over the written addresses
-abbrev total : (ℕ → ℕ) → List Written → ℕ
-total q [] = 0
-total q (w ∷ ws) = q (w .address) + total q ws
-
--- how often an address is written, and how many written addresses lie below one
-abbrev occurs : ℕ → List Written → ℕ
-occurs x ws = total (λ a. flag (eqb a x)) ws
-
-abbrev below : ℕ → List Written → ℕ
-below x ws = total (λ a. flag (ltb a x)) ws
+use Rattle.predicate_semantics.specs.Kept.{total, occurs, below, Distinct}
 
 -- every total stays, or a new address is added to every total
 data Put (a : ℕ) (ws vs : List Written) : Type 0 where
@@ -40,12 +29,6 @@ put-total a b (w ∷ ws) = go (eqb (w .address) a) refl (put-total a b ws)
     go true e h = again (λ q. ap (λ (x : ℕ). q x + total q ws) (sym (eqb-true _ _ e)))
     go false e (again f) = again (λ q. ap (λ (x : ℕ). q (w .address) + x) (f q))
     go false e (new o f) = new (rw e (omega arith)) (λ q. rw (f q) (omega arith))
-
--- each address is written once, and lies from low up to below high
-pub record Distinct (low high : ℕ) (ws : List Written) : Type 0 where
-  once : (x : ℕ) → occurs x ws ≤ 1
-  above : below low ws ≡ 0
-  under : below high ws ≡ total (λ _. 1) ws
 
 pub distinct-none : (low high : ℕ) → Distinct low high []
 distinct-none low high = record { once = λ x. omega arith; above = refl; under = refl }

@@ -30,9 +30,10 @@ use Rattle.predicate_semantics.specs.Tested.{Tested, passed, refused, _>
 abbrev pub LaneState : Type 0
 LaneState = State LaneWord (List Written)
 
--- the inputs, one for each lane, and how many whole rows and trace entries are lent
+-- the inputs, one for each lane, what the caller's choice of them comes to, and how many whole rows and trace entries are lent
 pub record Setup : Type 0 where
   pub inputs : List ℕ
+  pub choice : Tested (Unit {0})
   pub rows : ℕ
   pub entries : ℕ
 
@@ -57,11 +58,12 @@ inside a n = do
   _ ← require 4 (leb imageBase a)
   require 5 (leb (a + n) memoryEnd)
 
--- Who causes a refusal: before any step, of an image of so many bytes, 1, 2, and 13 where under four rows are lent
-unfoldable pub startTests : ℕ → Rv32SymbolLayout → ℕ → Tested (Unit {0})
-startTests size symbols rows = do
+-- Who causes a refusal: before any step, of an image of so many bytes, 1, 2, the caller's choice, and 13 where under four rows are lent
+unfoldable pub startTests : ℕ → Rv32SymbolLayout → Tested (Unit {0}) → ℕ → Tested (Unit {0})
+startTests size symbols choice rows = do
   _ ← require 1 (sized size)
   _ ← require 2 (symbolsPlaced symbols)
+  _ ← choice
   require 13 (leb 4 rows)
 
 -- a store at a known address: range, 11 below the image's end, 13 where the bytes then written are more than the rows
@@ -89,12 +91,12 @@ module _ (core : Core) (steps : ℕ) where
     word ← found 8 (core .expand half)
     decodeWord word 2
 
-module _ (inputs : List ℕ) where
+module _ (lanes : ℕ) where
   -- a load: range, then the bytes, written ones too
   unfoldable pub access : LaneBytes → ℕ → ℕ → Tested LaneWord
   access memory n a = do
     _ ← inside a n
-    passed (read (length inputs) memory n a)
+    passed (read lanes memory n a)
 
   -- a load whose lanes must agree
   unfoldable pub accessAgreed : ℕ → LaneBytes → ℕ → ℕ → Tested ℕ
@@ -159,7 +161,7 @@ module _ (p : Program) (l : Setup) where
     passed (goes (choose (eqb direction 0) (λ _. next) (λ _. to)))
   execute s next (Load rd a offset n e) = do
     address ← agreed 3 (unary (λ v. add v offset) (reg s a))
-    w ← access (l .inputs) (memoryOf s) n address
+    w ← access laneCount (memoryOf s) n address
     passed (sets rd (unary (extensionOf e) w) next)
   execute s next (Store a b offset n) = do
     address ← agreed 4 (unary (λ v. add v offset) (reg s a))
@@ -169,7 +171,7 @@ module _ (p : Program) (l : Setup) where
   -- the next step with nothing done yet: all its tests but the trace space
   unfoldable pub attempt : LaneState → Tested (Attempted LaneWord)
   attempt s = do
-    fetched ← fetch (l .inputs) (p .core) (memoryOf s) (s .steps) (s .pc)
+    fetched ← fetch laneCount (p .core) (memoryOf s) (s .steps) (s .pc)
     effect ← execute s (add (s .pc) (fetched .length)) (meaning (fetched .operation) (s .pc))
     passed (record { fetched = fetched; effect = effect })
 
@@ -184,14 +186,14 @@ module _ (p : Program) (l : Setup) where
   unfoldable pub finishEvents : LaneState → ℕ → ℕ → Tested Result
   finishEvents s returnValue count = do
     _ ← require 12 (leb count maxEvents && eqb count (length (s .locations)))
-    es ← events (l .inputs) (p .symbols .events) (memoryOf s) 0 [] (s .locations)
+    es ← events laneCount (p .symbols .events) (memoryOf s) 0 [] (s .locations)
     passed (record { returnValue = returnValue; steps = s .steps; trace = s .trace; events = es })
 
   -- Control step: the answer at stop; the return value is x10
   unfoldable pub finish : LaneState → Tested Result
   finish s = do
     returnValue ← agreed 6 (reg s 10)
-    count ← accessAgreed (l .inputs) 7 (memoryOf s) 4 (p .symbols .«event_count»)
+    count ← accessAgreed laneCount 7 (memoryOf s) 4 (p .symbols .«event_count»)
     finishEvents s returnValue count
 
   -- at most so many steps, up to the first arrival at stop: the bound (3) is tested before a step
@@ -223,7 +225,7 @@ module _ (p : Program) (l : Setup) where
   -- the first state, once the tests before any step are passed
   unfoldable pub start : Tested LaneState
   start = do
-    _ ← startTests (length (p .image)) (p .symbols) (l .rows)
+    _ ← startTests (length (p .image)) (p .symbols) (l .choice) (l .rows)
     passed begin
 
   -- the run, with a limit of steps

@@ -10,5 +10,7 @@ pub mod Standing
 pub mod Guarantee
 pub mod Cases
 pub mod Bound
--- For proofs: rules that hold of every run, which the record's proofs cite.
+pub mod Order
+-- For proofs: rules that hold of every run, which the record's proofs cite, and what every step keeps, which the loop's do.
 pub mod RecordRules
+pub mod Kept

@@ -14,6 +14,7 @@ use Rattle.lane_word.specs.Word.{firstInput, lanes, inputs}
 use Rattle.predicate_semantics.specs.declared.Rv32SymbolLayout.{Rv32SymbolLayout}
 use Rattle.predicate_semantics.specs.Program.{Core, Program}
 use Rattle.predicate_semantics.specs.State.{Result}
+use Rattle.predicate_semantics.specs.Tested.{passed}
 use Rattle.predicate_semantics.specs.Scalar.{scalarRun}
 use Rattle.predicate_semantics.specs.Lane.{Setup, Ended, laneRun}
 
@@ -39,9 +40,9 @@ standing image symbols = record { core = standingCore; image = image; symbols = 
 abbrev pub lastInput : ℕ
 lastInput = firstInput + lanes - 1
 
--- a lane for each standing input
+-- a lane for each standing input, which leaves nothing to choose
 unfoldable pub setup : ℕ → ℕ → Setup
-setup rows entries = record { inputs = inputs firstInput lanes; rows = rows; entries = entries }
+setup rows entries = record { inputs = inputs firstInput lanes; choice = passed tt; rows = rows; entries = entries }
 
 -- the lane run of an image with its symbols, with so many rows and trace entries lent
 unfoldable pub standingLaneRun : List ℕ → Rv32SymbolLayout → ℕ → ℕ → Ended

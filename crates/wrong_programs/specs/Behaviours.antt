@@ -64,7 +64,7 @@ noSpaceAtOnce (some (refused f)) = (eqb (f .number) 13 || eqb (f .number) 14) &&
 abbrev pub copied : Input → Ended
 copied x =
     laneRun (standing (imageOf x) (symbolsOf x))
-    (record { inputs = replicate lanes firstInput; rows = rowCount (x .rows); entries = entryCount (x .trace) }) maxSteps
+    (record { inputs = replicate lanes firstInput; choice = passed tt; rows = rowCount (x .rows); entries = entryCount (x .trace) }) maxSteps
 
 -- the bytes at the entry, as many as an instruction can have
 abbrev pub firstInstruction : Input → List ℕ
