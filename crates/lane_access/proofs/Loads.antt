@@ -5,7 +5,7 @@ use mathlib.Core.List.{List, [], _∷_}
 use Prim.Native.Nat.{ℕ, zero, suc, _+_, _-_, _*_, _%_, _^_, _≤_, _<_}
 use native.Mathlib.Nat.{mod-eq-of-lt, pow-suc}
 use native.Mathlib.Omega.{arith}
-use borrow.Author.Tests.{eq-eqb, ne-eqb, lt-ltb, le-ltb, leb-true}
+use borrow.Author.Tests.{eq-eqb, ne-eqb, lt-ltb, le-ltb, le-leb, leb-true}
 use lib.Dec.{ltb, leb}
 use lib.ListN.{length, getD, take, drop, length-drop}
 use lib.Seq.{drop-cons, length-take-le}
@@ -17,18 +17,16 @@ use Rattle.lane_word.specs.declared.LaneWord.{LaneWord}
 use Rattle.lane_word.specs.declared.Uniform.the-variants as uniform
 use Rattle.lane_word.specs.declared.Told.{Told}
 use Rattle.lane_word.specs.declared.Told.the-variants.{Value, Lanes}
-use Rattle.lane_word.specs.Word.{unknown, constant, binary, zip, every, inputs, uniformOf, firstInput, lanes}
+use Rattle.lane_word.specs.Word.{unknown, constant, binary, zip, every, uniformOf, lanes}
 use Rattle.lane_word.specs.Told.{wordOf, toldBy}
 use Rattle.lane_word.proofs.Clash.{clash}
-use Rattle.lane_word.proofs.Tab.{length-inputs}
 use Rattle.lane_word.proofs.ToldLaws.{binary-constants, uniform-constant}
 use Rattle.predicate_semantics.specs.Choice.{choose}
-use Rattle.predicate_semantics.specs.Program.{memoryEnd, initial}
+use Rattle.predicate_semantics.specs.Program.{Core, memoryEnd, initial}
 use Rattle.predicate_semantics.specs.Memory.{LaneBytes, read}
 use Rattle.predicate_semantics.specs.Tested.{Tested, passed, refused, refuse, require, _>>=_}
 use Rattle.predicate_answer.specs.Refusal.{Refusal}
 use Rattle.predicate_semantics.specs.Lane.{inside, agreedAs, agreed, access, accessAgreed, decodeWord, expandHalfword, fetchFour, fetch}
-use Rattle.predicate_semantics.specs.Standing.{standingCore}
 use Rattle.lane_memory.specs.Rows.{loadByte, toldByte}
 use Rattle.lane_memory.proofs.Laws.{load-below, told-byte}
 use Rattle.lane_access.specs.Seen.{offsetOf, seen, toldSeen, toldRead}
@@ -121,6 +119,10 @@ read-told image rows (suc n) a =
     by-told join (toldSeen image rows a) (toldRead (toldSeen image rows) n (suc a)) (seen image rows a) (read lanes (seen image rows) n (suc a))
     (seen-told image rows a) (read-told image rows n (suc a))
 
+-- .. so one value that is told of it is in every lane
+told-word : (image rows : List ℕ) (n a : ℕ) {v : ℕ} → toldRead (toldSeen image rows) n a ≡ Value v → read lanes (seen image rows) n a ≡ constant lanes v
+told-word image rows n a e = sym (ap (λ (u : Told). wordOf u (read lanes (seen image rows) n a)) (sym e) ∙ read-told image rows n a)
+
 -- bytes that are not told leave the whole number to its lanes
 lanes-above : (f : ℕ → ℕ → ℕ) (u : Told) → toldBy f u Lanes ≡ Lanes
 lanes-above f (Value a) = refl
@@ -199,32 +201,36 @@ inside-fits a n h = go (leb imageBase a) (leb (a + n) memoryEnd) refl refl h
     go true false p q h = absurd (clash (cc))
     go false c p q h = absurd (clash (cc))
 
-module _ (memory : LaneBytes) (n a : ℕ) where
-  pub access-inside : inside a n ≡ passed tt → access (inputs firstInput lanes) memory n a ≡ passed (read lanes memory n a)
-  unfolding access _>>=_
-  access-inside h = rw (h, length-inputs firstInput lanes)
+fits-inside : (a n : ℕ) → imageBase ≤ a → a + n ≤ memoryEnd → inside a n ≡ passed tt
+unfolding inside require refuse _>>=_
+fits-inside a n l h = rw (le-leb imageBase a l, le-leb (a + n) memoryEnd h)
 
-  pub access-outside : (r : Refusal) → inside a n ≡ refused r → access (inputs firstInput lanes) memory n a ≡ refused r
+module _ (memory : LaneBytes) (n a : ℕ) where
+  pub access-inside : inside a n ≡ passed tt → access lanes memory n a ≡ passed (read lanes memory n a)
+  unfolding access _>>=_
+  access-inside h = rw h
+
+  pub access-outside : (r : Refusal) → inside a n ≡ refused r → access lanes memory n a ≡ refused r
   unfolding access _>>=_
   access-outside r h = rw h
 
   -- the answer to a load, both ways
-  pub answer-passed : {w : LaneWord} → inside a n ≡ passed tt → w ≡ read lanes memory n a → (passed tt, w) ≡ accessedAs (access (inputs firstInput lanes) memory n a)
+  pub answer-passed : {w : LaneWord} → inside a n ≡ passed tt → w ≡ read lanes memory n a → (passed tt, w) ≡ accessedAs (access lanes memory n a)
   answer-passed h e = sym (ap accessedAs (access-inside h ∙ ap passed (sym e)))
 
-  pub answer-refused : {w : LaneWord} (r : Refusal) → inside a n ≡ refused r → w ≡ unknown lanes → (refused r, w) ≡ accessedAs (access (inputs firstInput lanes) memory n a)
+  pub answer-refused : {w : LaneWord} (r : Refusal) → inside a n ≡ refused r → w ≡ unknown lanes → (refused r, w) ≡ accessedAs (access lanes memory n a)
   answer-refused r h e = rw (e, access-outside r h)
 
   -- the word of a load that passed
-  pub accessed-word : (r : Accessed) → accessedOf r ≡ accessedAs (access (inputs firstInput lanes) memory n a) → inside a n ≡ passed tt → r .word ≡ read lanes memory n a
+  pub accessed-word : (r : Accessed) → accessedOf r ≡ accessedAs (access lanes memory n a) → inside a n ≡ passed tt → r .word ≡ read lanes memory n a
   accessed-word r e h = ap (λ (x : Tested (Unit {0}) × LaneWord). x .1) (e ∙ ap accessedAs (access-inside h))
 
   module _ (role : ℕ) where
-    pub agreed-inside : inside a n ≡ passed tt → accessAgreed (inputs firstInput lanes) role memory n a ≡ agreed role (read lanes memory n a)
+    pub agreed-inside : inside a n ≡ passed tt → accessAgreed lanes role memory n a ≡ agreed role (read lanes memory n a)
     unfolding accessAgreed _>>=_
     agreed-inside h = rw (access-inside h)
 
-    pub agreed-outside : (r : Refusal) → inside a n ≡ refused r → accessAgreed (inputs firstInput lanes) role memory n a ≡ refused r
+    pub agreed-outside : (r : Refusal) → inside a n ≡ refused r → accessAgreed lanes role memory n a ≡ refused r
     unfolding accessAgreed _>>=_
     agreed-outside r h = rw (access-outside r h)
 
@@ -239,8 +245,7 @@ unfolding toldLoad _>>=_
 loads image rows n a r e = go r (inside a n) refl e
   where
     go : (r : Loading) (t : Tested (Unit {0})) → inside a n ≡ t → loadingOf r ≡ (t >>= λ _. passed (toldRead (toldSeen image rows) n a)) → LoadsAs (seen image rows) n a r
-    go (loading.Value v) (passed u) p e =
-        let q : toldRead (toldSeen image rows) n a ≡ Value v = cc in (p, sym (ap (λ (u : Told). wordOf u (read lanes (seen image rows) n a)) (sym q) ∙ read-told image rows n a))
+    go (loading.Value v) (passed u) p e = let q : toldRead (toldSeen image rows) n a ≡ Value v = cc in (p, told-word image rows n a q)
     go (loading.Value v) (refused x) p e = absurd (clash (cc))
     go loading.Lanes (passed u) p e = p
     go loading.Lanes (refused x) p e = absurd (clash (cc))
@@ -280,7 +285,7 @@ agreed-first role v w h = go (w .known) (every (getD (w .values) 0 0) (w .values
     go true false h = absurd (clash (cc))
     go false c h = absurd (clash (cc))
 
-pub half-below : (image rows : List ℕ) → AllBytes image → AllBytes rows → (role a v : ℕ) → accessAgreed (inputs firstInput lanes) role (seen image rows) 2 a ≡ passed v → v < 65536
+pub half-below : (image rows : List ℕ) → AllBytes image → AllBytes rows → (role a v : ℕ) → accessAgreed lanes role (seen image rows) 2 a ≡ passed v → v < 65536
 half-below image rows h k role a v e = go (inside a 2) refl
   where
     go : (t : Tested (Unit {0})) → inside a 2 ≡ t → v < 65536
@@ -290,30 +295,72 @@ half-below image rows h k role a v e = go (inside a 2) refl
         rw f at (first-read (seen image rows) (first-seen image rows h k) 2 a (omega arith))
     go (refused r) p = let q : refused r ≡ passed v = sym (agreed-outside (seen image rows) 2 a role r p) ∙ e in absurd (clash (cc))
 
+-- ---- four bytes of the image at once
+
+-- their low half is the number in the first two
+low-half : (bs : List ℕ) → AllBytes bs → value (take 4 bs) % 65536 ≡ value (take 2 bs)
+low-half [] h = refl
+low-half (b ∷ []) h = omega (arith, h 0)
+low-half (b ∷ d ∷ bs) h = omega (arith, h 0, h 1)
+
+-- a fetch's loads of two bytes and of four agree on v's low half and on v
+pub record Begins (memory : LaneBytes) (pc v : ℕ) : Type 0 where
+  pub half : accessAgreed lanes 1 memory 2 pc ≡ passed (v % 65536)
+  pub whole : accessAgreed lanes 1 memory 4 pc ≡ passed v
+
+module _ (image rows : List ℕ) (h : AllBytes image) (a : ℕ) where
+  lies-agreed : (role v n : ℕ) → inside a n ≡ passed tt → Lies v image a n → accessAgreed lanes role (seen image rows) n a ≡ passed v
+  lies-agreed role v n p f =
+      agreed-inside (seen image rows) n a role p
+      ∙ ap (agreed role) (told-word image rows n a (sym (lies-told image rows h v n a (inside-fits a n p .0) f)))
+      ∙ agreed-constant role v
+
+  lies-half : {v : ℕ} → Lies v image a 4 → Lies (v % 65536) image a 2
+  lies-half f = record {
+    small = omega arith;
+    fits = omega (arith, f .fits);
+    is = ap (λ (x : ℕ). x % 65536) (f .is) ∙ low-half (drop (offsetOf a) image) (below-drop (offsetOf a) image h);
+  }
+
+  pub lies-begins : {v : ℕ} → inside a 4 ≡ passed tt → Lies v image a 4 → Begins (seen image rows) a v
+  lies-begins {v} p f =
+      let i = inside-fits a 4 p in
+      record {
+        half = lies-agreed 1 (v % 65536) 2 (fits-inside a 2 (i .0) (omega (arith, i .1))) (lies-half f);
+        whole = lies-agreed 1 v 4 p f;
+      }
+
 -- ---- the ways of a fetch
 
-module _ (memory : LaneBytes) (pc steps : ℕ) where
-  pub fetch-refused : (r : Refusal) → accessAgreed (inputs firstInput lanes) 1 memory 2 pc ≡ refused r → fetch (inputs firstInput lanes) standingCore memory steps pc ≡ refused r
+module _ (core : Core) (memory : LaneBytes) (pc steps : ℕ) where
+  pub fetch-refused : (r : Refusal) → accessAgreed lanes 1 memory 2 pc ≡ refused r → fetch lanes core memory steps pc ≡ refused r
   unfolding fetch _>>=_
   fetch-refused r h = rw h
 
-  pub fetch-whole : (half : ℕ) → accessAgreed (inputs firstInput lanes) 1 memory 2 pc ≡ passed half → half % 4 ≡ 3
-      → fetch (inputs firstInput lanes) standingCore memory steps pc ≡ fetchFour (inputs firstInput lanes) standingCore memory steps pc
+  pub fetch-whole : (half : ℕ) → accessAgreed lanes 1 memory 2 pc ≡ passed half → half % 4 ≡ 3
+      → fetch lanes core memory steps pc ≡ fetchFour lanes core memory steps pc
   unfolding fetch choose _>>=_
   fetch-whole half h e = rw (h, eq-eqb (half % 4) 3 e)
 
-  pub fetch-half : (half : ℕ) → accessAgreed (inputs firstInput lanes) 1 memory 2 pc ≡ passed half → (half % 4 ≡ 3 → ⊥)
-      → fetch (inputs firstInput lanes) standingCore memory steps pc ≡ expandHalfword standingCore steps half
+  pub fetch-half : (half : ℕ) → accessAgreed lanes 1 memory 2 pc ≡ passed half → (half % 4 ≡ 3 → ⊥)
+      → fetch lanes core memory steps pc ≡ expandHalfword core steps half
   unfolding fetch choose _>>=_
   fetch-half half h e = rw (h, ne-eqb (half % 4) 3 e)
 
   -- its four bytes
-  pub four-whole : (word : ℕ) → accessAgreed (inputs firstInput lanes) 1 memory 4 pc ≡ passed word
-      → fetchFour (inputs firstInput lanes) standingCore memory steps pc ≡ decodeWord standingCore steps word 4
+  pub four-whole : (word : ℕ) → accessAgreed lanes 1 memory 4 pc ≡ passed word
+      → fetchFour lanes core memory steps pc ≡ decodeWord core steps word 4
   unfolding fetchFour _>>=_
   four-whole word h = rw h
 
-  pub four-refused : (r : Refusal) → accessAgreed (inputs firstInput lanes) 1 memory 4 pc ≡ refused r
-      → fetchFour (inputs firstInput lanes) standingCore memory steps pc ≡ refused r
+  pub four-refused : (r : Refusal) → accessAgreed lanes 1 memory 4 pc ≡ refused r
+      → fetchFour lanes core memory steps pc ≡ refused r
   unfolding fetchFour _>>=_
   four-refused r h = rw h
+
+  -- four bytes read at once
+  pub begins-whole : {v : ℕ} → Begins memory pc v → v % 4 ≡ 3 → fetch lanes core memory steps pc ≡ decodeWord core steps v 4
+  begins-whole {v} b e = fetch-whole (v % 65536) (b .half) (omega arith) ∙ four-whole v (b .whole)
+
+  pub begins-half : {v : ℕ} → Begins memory pc v → (v % 4 ≡ 3 → ⊥) → fetch lanes core memory steps pc ≡ expandHalfword core steps (v % 65536)
+  begins-half {v} b e = fetch-half (v % 65536) (b .half) (λ d. e (omega (arith, d)))

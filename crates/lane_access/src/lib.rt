@@ -4,14 +4,15 @@ ghost use Prim.Native.Nat.{ℕ, _+_, _≤_, _^_};
 ghost use lib.Dec.{ltb};
 ghost use lib.ListN.{length};
 ghost use Rattle.riscv32imc.specs.Constants.{imageBase};
-ghost use Rattle.lane_word.specs.Word.{inputs, firstInput, lanes};
-ghost use Rattle.predicate_semantics.specs.Program.{initial};
+ghost use Rattle.lane_word.specs.Word.{lanes};
+ghost use Rattle.predicate_semantics.specs.Program.{Core, initial};
 ghost use Rattle.predicate_semantics.specs.Memory.{read};
-ghost use Rattle.predicate_semantics.specs.Lane.{agreedAs, agreed, inside, access, accessAgreed, decodeWord, expandHalfword, fetchFour, fetch};
-ghost use Rattle.predicate_semantics.specs.Standing.{standingCore};
+ghost use Rattle.predicate_semantics.specs.Lane.{agreedAs, agreed, inside, access, accessAgreed, decodeWord, expandHalfword, fetch};
 ghost use Rattle.lane_memory.specs.Rows.{Joined};
 ghost use Rattle.lane_access.specs.Seen.{offsetOf, seen, toldSeen, toldRead};
 ghost use Rattle.lane_access.specs.Whole.{FromImage};
+ghost use Rattle.lane_access.specs.Parts.{spellingOf, encodingOf};
+ghost use Rattle.lane_access.specs.InForce.{InForce};
 ghost use Rattle.lane_access.specs.Answers.{verdictOf, agreedOf, accessedOf, accessedAs, loadingOf, toldLoad, fetchingOf};
 ghost use Rattle.predicate_answer.specs.Refusal.{roleOf};
 use lane_word::LaneWord;
@@ -222,7 +223,7 @@ pub fn load(image: &[u8], rows: &[u8], address: u32, width: u32) -> Loading
 
 // A load lane by lane: range, then the bytes.
 pub fn access(image: &[u8], rows: &[u8], address: u32, width: u32) -> Accessed
-    ensures { λ r. ⌜ accessedOf r ≡ accessedAs (access (inputs firstInput lanes) (seen (now (image .entry)) (now (rows .entry))) width address) ⌝ }
+    ensures { λ r. ⌜ accessedOf r ≡ accessedAs (access lanes (seen (now (image .entry)) (now (rows .entry))) width address) ⌝ }
 {
     let range = range_of(address, width);
     if let Verdict::Refused(error) = range {
@@ -239,7 +240,7 @@ pub fn access(image: &[u8], rows: &[u8], address: u32, width: u32) -> Accessed
 
 // A load that has to be uniform; what one value tells is.
 pub fn access_agreed(image: &[u8], rows: &[u8], address: u32, width: u32, role: Role) -> Agreed
-    ensures { λ r. ⌜ agreedOf r ≡ accessAgreed (inputs firstInput lanes) (roleOf role) (seen (now (image .entry)) (now (rows .entry))) width address ⌝ }
+    ensures { λ r. ⌜ agreedOf r ≡ accessAgreed lanes (roleOf role) (seen (now (image .entry)) (now (rows .entry))) width address ⌝ }
 {
     let loading = load(image, rows, address, width);
     match loading {
@@ -251,7 +252,7 @@ pub fn access_agreed(image: &[u8], rows: &[u8], address: u32, width: u32, role: 
 
 // The operation of a word, with its length.
 fn decoded(word: u32, length: u32) -> Fetching
-    ensures { λ r. ⌜ ((steps : ℕ) → fetchingOf r ≡ decodeWord standingCore steps word length) ⌝ }
+    ensures { λ r. ⌜ ((core : Core) (steps : ℕ) → InForce core steps → fetchingOf r ≡ decodeWord core steps word length) ⌝ }
 {
     let known = riscv_decode::decode(word);
     match known {
@@ -264,40 +265,86 @@ fn decoded(word: u32, length: u32) -> Fetching
     }
 }
 
+// A fetched word with the length of its spelling, or a refusal. Both lengths meet here, so that decoding is called at one place and inlined there.
+enum Spelling {
+    Word { word: u32, length: u32 },
+    Refused(Rv32Error),
+}
+
 // A halfword, expanded.
-fn expanded(half: u16) -> Fetching
-    ensures { λ r. ⌜ ((steps : ℕ) → fetchingOf r ≡ expandHalfword standingCore steps half) ⌝ }
+fn expanded(half: u16) -> Spelling
+    ensures { λ r. ⌜ ((core : Core) (steps : ℕ) → InForce core steps → spellingOf core steps r ≡ expandHalfword core steps half) ⌝ }
 {
     let expansion = riscv32imc::decompress(half);
     match expansion {
-        Expanded::Word(word) => decoded(word, 2),
-        Expanded::Refused => Fetching::Refused(Rv32Error::Halfword),
+        Expanded::Word(word) => Spelling::Word { word, length: 2 },
+        Expanded::Refused => Spelling::Refused(Rv32Error::Halfword),
     }
 }
 
-// An instruction of four bytes.
-fn fetch_four(image: &[u8], rows: &[u8], pc: u32) -> Fetching
-    ensures { λ r. ⌜ ((steps : ℕ) → fetchingOf r ≡ fetchFour (inputs firstInput lanes) standingCore (seen (now (image .entry)) (now (rows .entry))) steps pc) ⌝ }
-{
-    let whole = access_agreed(image, rows, pc, 4, Role::Fetch);
-    match whole {
-        Agreed::Value(word) => decoded(word, 4),
-        Agreed::Refused(error) => Fetching::Refused(error),
-    }
+// An instruction as it lies in memory: four bytes, or the low two of a number, or a refusal.
+enum Encoding {
+    Four(u32),
+    Two(u32),
+    Refused(Rv32Error),
 }
 
-// Fetch: two bytes; expansion, or four bytes; the word's operation. The table is one for the whole run.
-pub fn fetch(image: &[u8], rows: &[u8], pc: u32) -> Fetching
-    ensures { λ r. ⌜ ((steps : ℕ) → fetchingOf r ≡ fetch (inputs firstInput lanes) standingCore (seen (now (image .entry)) (now (rows .entry))) steps pc) ⌝ }
+// Where the image does not hold four bytes: two, which may be all that can be read, and four where the two say so.
+fn number_beyond(image: &[u8], rows: &[u8], pc: u32) -> Encoding
+    ensures { λ r. ⌜ ((core : Core) (steps : ℕ) → encodingOf core steps r ≡ fetch lanes core (seen (now (image .entry)) (now (rows .entry))) steps pc) ⌝ }
 {
     let low = access_agreed(image, rows, pc, 2, Role::Fetch);
     match low {
         Agreed::Value(half) => {
             if half % 4 == 3 {
-                return fetch_four(image, rows, pc);
+                let whole = access_agreed(image, rows, pc, 4, Role::Fetch);
+                match whole {
+                    Agreed::Value(word) => return Encoding::Four(word),
+                    Agreed::Refused(error) => return Encoding::Refused(error),
+                }
             }
-            expanded((half % 65536) as u16)
+            Encoding::Two(half)
         }
-        Agreed::Refused(error) => Fetching::Refused(error),
+        Agreed::Refused(error) => Encoding::Refused(error),
+    }
+}
+
+// Four bytes of the image at once; a short instruction is the low two. The image may be longer than memory, so the range comes first.
+fn number_at(image: &[u8], rows: &[u8], pc: u32) -> Encoding
+    ensures { λ r. ⌜ ((core : Core) (steps : ℕ) → encodingOf core steps r ≡ fetch lanes core (seen (now (image .entry)) (now (rows .entry))) steps pc) ⌝ }
+{
+    let range = range_of(pc, 4);
+    if let Verdict::Passed = range {
+        let number = image_number(image, pc, 4);
+        if let ImageNumber::Number(value) = number {
+            if value % 4 == 3 {
+                return Encoding::Four(value);
+            }
+            return Encoding::Two(value);
+        }
+    }
+    number_beyond(image, rows, pc)
+}
+
+// The word of an instruction: its four bytes, or what its two expand to.
+fn spelled(image: &[u8], rows: &[u8], pc: u32) -> Spelling
+    ensures { λ r. ⌜ ((core : Core) (steps : ℕ) → InForce core steps → spellingOf core steps r ≡ fetch lanes core (seen (now (image .entry)) (now (rows .entry))) steps pc) ⌝ }
+{
+    let encoding = number_at(image, rows, pc);
+    match encoding {
+        Encoding::Four(word) => Spelling::Word { word, length: 4 },
+        Encoding::Two(number) => expanded((number % 65536) as u16),
+        Encoding::Refused(error) => Spelling::Refused(error),
+    }
+}
+
+// Fetch: the instruction's word, then its operation. The table is one for the whole run.
+pub fn fetch(image: &[u8], rows: &[u8], pc: u32) -> Fetching
+    ensures { λ r. ⌜ ((core : Core) (steps : ℕ) → InForce core steps → fetchingOf r ≡ fetch lanes core (seen (now (image .entry)) (now (rows .entry))) steps pc) ⌝ }
+{
+    let spelling = spelled(image, rows, pc);
+    match spelling {
+        Spelling::Word { word, length } => decoded(word, length),
+        Spelling::Refused(error) => Fetching::Refused(error),
     }
 }
