@@ -6,20 +6,22 @@ use Prim.Native.Nat.{ℕ, zero, suc, _≤_, _<_}
 use native.Mathlib.Omega.{arith}
 use borrow.Author.Tests.{eqb-true, eqb-false, ne-eqb, ltb-true, ltb-false}
 use lib.Dec.{eqb, ltb}
-use lib.ListN.{length, getD, set, replicate, length-set, length-replicate}
+use lib.ListN.{length, getD, set, take, replicate, length-set, length-replicate}
 use lib.Seq.{getD-set-same, getD-set-other, set-out}
 use Rattle.lane_word.specs.declared.LaneWord.{LaneWord}
 use Rattle.lane_word.specs.declared.Told.{Told}
 use Rattle.lane_word.specs.declared.Told.the-variants.{Value, Lanes}
-use Rattle.lane_word.specs.Word.{constant, unknown, domain, inputs, firstInput, lanes}
-use Rattle.lane_word.proofs.Tab.{length-inputs}
+use Rattle.lane_word.specs.Word.{constant, unknown, lanes}
 use Rattle.lane_word.specs.Told.{wordOf}
 use Rattle.lane_word.proofs.ToldLaws.{constant-size}
 use Rattle.predicate_semantics.specs.Choice.{choose}
+use Rattle.predicate_semantics.specs.Program.{stop, stackPointer}
 use Rattle.predicate_semantics.specs.State.{fill, atStart, assign}
 use Rattle.predicate_action.specs.declared.Reading.{Reading}
 use Rattle.predicate_action.specs.Reading.{operandOf}
-use Rattle.riscv32imc_predicate.specs.Register.{registerCount, firstOperand, secondOperand, unread, places, heldWords, Held, startRegisters, startTold, slotOf, operandTold, placeOf, laidOut}
+use Rattle.riscv32imc_predicate.specs.declared.Hint.{Hint}
+use Rattle.riscv32imc_predicate.specs.Setting.{registerCount}
+use Rattle.riscv32imc_predicate.specs.Register.{firstOperand, secondOperand, unread, places, heldWords, Held, startRegisters, value, byLanes, slotOf, operandTold, placeOf, laidOut}
 
 -- ---- lists
 
@@ -29,35 +31,35 @@ read-any [] i d e h = absurd (omega arith)
 read-any (x ∷ xs) zero d e h = refl
 read-any (x ∷ xs) (suc i) d e h = read-any xs i d e (omega arith)
 
-held-both : (n : ℕ) (us : List Told) (ws : List LaneWord) (i : ℕ) (u : Told) (w : LaneWord)
-    → heldWords n (set us i u) (set ws i w) ≡ set (heldWords n us ws) i (wordOf u w)
+held-both : (n : ℕ) (us : List Hint) (ws : List LaneWord) (i : ℕ) (u : Hint) (w : LaneWord)
+    → heldWords n (set us i u) (set ws i w) ≡ set (heldWords n us ws) i (wordOf (u .told) w)
 unfolding heldWords
 held-both zero us ws i u w = refl
 held-both (suc n) [] ws i u w = refl
 held-both (suc n) (x ∷ us) [] zero u w = refl
 held-both (suc n) (x ∷ us) [] (suc i) u w = refl
 held-both (suc n) (x ∷ us) (y ∷ ws) zero u w = refl
-held-both (suc n) (x ∷ us) (y ∷ ws) (suc i) u w = ap (λ (l : List LaneWord). wordOf x y ∷ l) (held-both n us ws i u w)
+held-both (suc n) (x ∷ us) (y ∷ ws) (suc i) u w = ap (λ (l : List LaneWord). wordOf (x .told) y ∷ l) (held-both n us ws i u w)
 
-held-told : (n : ℕ) (us : List Told) (ws : List LaneWord) (i v : ℕ) → heldWords n (set us i (Value v)) ws ≡ set (heldWords n us ws) i (constant lanes v)
+held-told : (n : ℕ) (us : List Hint) (ws : List LaneWord) (i v : ℕ) → heldWords n (set us i (value v)) ws ≡ set (heldWords n us ws) i (constant lanes v)
 unfolding heldWords
 held-told zero us ws i v = refl
 held-told (suc n) [] ws i v = refl
 held-told (suc n) (x ∷ us) [] zero v = refl
 held-told (suc n) (x ∷ us) [] (suc i) v = refl
 held-told (suc n) (x ∷ us) (y ∷ ws) zero v = refl
-held-told (suc n) (x ∷ us) (y ∷ ws) (suc i) v = ap (λ (l : List LaneWord). wordOf x y ∷ l) (held-told n us ws i v)
+held-told (suc n) (x ∷ us) (y ∷ ws) (suc i) v = ap (λ (l : List LaneWord). wordOf (x .told) y ∷ l) (held-told n us ws i v)
 
-held-beyond : (n : ℕ) (us : List Told) (ws : List LaneWord) (i : ℕ) (w : LaneWord) → n ≤ i → heldWords n us (set ws i w) ≡ heldWords n us ws
+held-beyond : (n : ℕ) (us : List Hint) (ws : List LaneWord) (i : ℕ) (w : LaneWord) → n ≤ i → heldWords n us (set ws i w) ≡ heldWords n us ws
 unfolding heldWords
 held-beyond zero us ws i w h = refl
 held-beyond (suc n) [] ws i w h = refl
 held-beyond (suc n) (x ∷ us) [] i w h = refl
 held-beyond (suc n) (x ∷ us) (y ∷ ws) zero w h = absurd (omega arith)
-held-beyond (suc n) (x ∷ us) (y ∷ ws) (suc i) w h = ap (λ (l : List LaneWord). wordOf x y ∷ l) (held-beyond n us ws i w (omega arith))
+held-beyond (suc n) (x ∷ us) (y ∷ ws) (suc i) w h = ap (λ (l : List LaneWord). wordOf (x .told) y ∷ l) (held-beyond n us ws i w (omega arith))
 
-held-read : (n : ℕ) (us : List Told) (ws : List LaneWord) (k : ℕ) (d : LaneWord) (e : Told) (f : LaneWord) → (k < n) × (n ≤ length us) × (n ≤ length ws)
-    → getD (heldWords n us ws) k d ≡ wordOf (getD us k e) (getD ws k f)
+held-read : (n : ℕ) (us : List Hint) (ws : List LaneWord) (k : ℕ) (d : LaneWord) (e : Hint) (f : LaneWord) → (k < n) × (n ≤ length us) × (n ≤ length ws)
+    → getD (heldWords n us ws) k d ≡ wordOf (getD us k e .told) (getD ws k f)
 unfolding heldWords
 held-read zero us ws k d e f h = absurd (omega (arith, h .0))
 held-read (suc n) [] ws k d e f h = absurd (omega (arith, h .1))
@@ -65,9 +67,29 @@ held-read (suc n) (x ∷ us) [] k d e f h = absurd (omega (arith, h .2))
 held-read (suc n) (x ∷ us) (y ∷ ws) zero d e f h = refl
 held-read (suc n) (x ∷ us) (y ∷ ws) (suc k) d e f h = held-read n us ws k d e f (omega (arith, h .0), omega (arith, h .1), omega (arith, h .2))
 
+-- the words of fewer places
+held-fewer : (n m : ℕ) (us : List Hint) (ws : List LaneWord) → n ≤ m → heldWords n us ws ≡ take n (heldWords m us ws)
+unfolding heldWords
+held-fewer zero m us ws h = refl
+held-fewer (suc n) zero us ws h = absurd (omega arith)
+held-fewer (suc n) (suc m) [] ws h = refl
+held-fewer (suc n) (suc m) (x ∷ us) [] h = refl
+held-fewer (suc n) (suc m) (x ∷ us) (y ∷ ws) h = ap (λ (l : List LaneWord). wordOf (x .told) y ∷ l) (held-fewer n m us ws (omega arith))
+
+fill-fewer : (n m i : ℕ) (f : ℕ → LaneWord) → n ≤ m → fill n i f ≡ take n (fill m i f)
+unfolding fill
+fill-fewer zero m i f h = refl
+fill-fewer (suc n) zero i f h = absurd (omega arith)
+fill-fewer (suc n) (suc m) i f h = ap (λ (l : List LaneWord). f i ∷ l) (fill-fewer n m (suc i) f (omega arith))
+
+length-fill : (n i : ℕ) (f : ℕ → LaneWord) → length (fill n i f) ≡ n
+unfolding fill
+length-fill zero i f = refl
+length-fill (suc n) i f = ap suc (length-fill n (suc i) f)
+
 -- ---- where a register is set
 
-assign-slot : (xs : List LaneWord) (rd : ℕ) (v : LaneWord) → length xs ≡ registerCount → set xs (slotOf rd) v ≡ assign xs rd v
+assign-slot : (xs : List LaneWord) (rd : ℕ) (v : LaneWord) → length xs ≤ registerCount → set xs (slotOf rd) v ≡ assign xs rd v
 unfolding assign
 assign-slot xs zero v e = set-out xs unread v (omega (arith, e))
 assign-slot xs (suc r) v e = rw (ne-eqb (suc r) 0 (λ q. omega arith)) (go (ltb (suc r) registerCount) refl)
@@ -97,49 +119,60 @@ sized-set ws i w e b s f k h = go (eqb k i) refl
     go true q = rw (eqb-true k i q, getD-set-same ws i w (unknown lanes) (omega (arith, e, b))) s
     go false q = rw (getD-set-other ws i k w (unknown lanes) (λ z. eqb-false k i q z)) (f k h)
 
-module _ {told : List Told} {words registers : List LaneWord} (h : Held told words registers) where
+module _ {n : ℕ} {hints : List Hint} {words registers : List LaneWord} (h : Held n hints words registers) where
   -- a register that is read
-  pub held-source : (k : ℕ) (d : LaneWord) (e : Told) (f : LaneWord) → k < registerCount → getD registers k d ≡ wordOf (getD told k e) (getD words k f)
-  held-source k d e f b = rw (← (h .same)) (held-read registerCount told words k d e f (b, omega (arith, h .told-size), omega (arith, h .words-size)))
+  pub held-source : (k : ℕ) (d : LaneWord) (e : Hint) (f : LaneWord) → k < n → getD registers k d ≡ wordOf (getD hints k e .told) (getD words k f)
+  held-source k d e f b =
+      rw (← (h .same)) (held-read n hints words k d e f (b, omega (arith, h .hints-size, h .most), omega (arith, h .words-size, h .most)))
 
   pub held-lanes : (k : ℕ) (d : LaneWord) → k < places → length (getD words k d .values) ≡ lanes
   held-lanes k d b = rw (read-any words k d (unknown lanes) (omega (arith, h .words-size))) (h .sized k b)
 
+  -- setting a register is setting its place
+  set-slot : (rd : ℕ) (w : LaneWord) → set registers (slotOf rd) w ≡ assign registers rd w
+  set-slot rd w = assign-slot registers rd w (omega (arith, h .size, h .most))
+
+  set-size : (rd : ℕ) (w : LaneWord) → length (assign registers rd w) ≡ n
+  set-size rd w = ap length (sym (set-slot rd w)) ∙ length-set registers (slotOf rd) w ∙ h .size
+
   -- a register that is set, by one value
-  pub held-value : (rd v : ℕ) → Held (set told (slotOf rd) (Value v)) words (assign registers rd (constant lanes v))
+  pub held-value : (rd v : ℕ) → Held n (set hints (slotOf rd) (value v)) words (assign registers rd (constant lanes v))
   held-value rd v = record {
-    told-size = length-set told (slotOf rd) (Value v) ∙ h .told-size;
+    hints-size = length-set hints (slotOf rd) (value v) ∙ h .hints-size;
     words-size = h .words-size;
     sized = h .sized;
-    size = ap length (sym (assign-slot registers rd (constant lanes v) (h .size))) ∙ length-set registers (slotOf rd) (constant lanes v) ∙ h .size;
+    most = h .most;
+    size = set-size rd (constant lanes v);
     same =
-        held-told registerCount told words (slotOf rd) v
+        held-told n hints words (slotOf rd) v
         ∙ ap (λ (l : List LaneWord). set l (slotOf rd) (constant lanes v)) (h .same)
-        ∙ assign-slot registers rd (constant lanes v) (h .size);
+        ∙ set-slot rd (constant lanes v);
   }
 
-  -- by a word and what is told of it
-  pub held-word : (rd : ℕ) (u : Told) (w : LaneWord) → length (w .values) ≡ lanes
-      → Held (set told (slotOf rd) u) (set words (slotOf rd) w) (assign registers rd (wordOf u w))
-  held-word rd u w s = record {
-    told-size = length-set told (slotOf rd) u ∙ h .told-size;
+  -- by its lanes
+  pub held-word : (rd : ℕ) (w : LaneWord) → length (w .values) ≡ lanes
+      → Held n (set hints (slotOf rd) byLanes) (set words (slotOf rd) w) (assign registers rd w)
+  held-word rd w s = record {
+    hints-size = length-set hints (slotOf rd) byLanes ∙ h .hints-size;
     words-size = length-set words (slotOf rd) w ∙ h .words-size;
     sized = sized-set words (slotOf rd) w (h .words-size) (slot-below rd) s (h .sized);
-    size = ap length (sym (assign-slot registers rd (wordOf u w) (h .size))) ∙ length-set registers (slotOf rd) (wordOf u w) ∙ h .size;
+    most = h .most;
+    size = set-size rd w;
     same =
-        held-both registerCount told words (slotOf rd) u w
-        ∙ ap (λ (l : List LaneWord). set l (slotOf rd) (wordOf u w)) (h .same)
-        ∙ assign-slot registers rd (wordOf u w) (h .size);
+        held-both n hints words (slotOf rd) byLanes w
+        ∙ ap (λ (l : List LaneWord). set l (slotOf rd) w) (h .same)
+        ∙ set-slot rd w;
   }
 
   -- a value that is laid out past the registers
-  pub held-laid : (u : Told) (own : ℕ) → registerCount ≤ own → own < places → Held told (laidOut u own words) registers
+  pub held-laid : (u : Told) (own : ℕ) → registerCount ≤ own → own < places → Held n hints (laidOut u own words) registers
   held-laid (Value v) own a b = record {
-    told-size = h .told-size;
+    hints-size = h .hints-size;
     words-size = length-set words own (constant lanes v) ∙ h .words-size;
     sized = sized-set words own (constant lanes v) (h .words-size) b (constant-size lanes v) (h .sized);
+    most = h .most;
     size = h .size;
-    same = held-beyond registerCount told words own (constant lanes v) a ∙ h .same;
+    same = held-beyond n hints words own (constant lanes v) (omega (arith, h .most, a)) ∙ h .same;
   }
   held-laid Lanes own a b = h
 
@@ -180,18 +213,22 @@ pub unknown-size : (n : ℕ) → length (unknown n .values) ≡ n
 unfolding unknown
 unknown-size n = length-replicate n 0
 
-domain-size : length (domain (inputs firstInput lanes) .values) ≡ lanes
-unfolding domain
-domain-size = length-inputs firstInput lanes
+-- x0, x1 and x2 are told by their values
+abbrev pub startHints : List Hint
+startHints = set (set (set (replicate places byLanes) 0 (value 0)) 1 (value stop)) 2 (value stackPointer)
 
-pub start-held : Held startTold (set (replicate places (unknown lanes)) 10 (domain (inputs firstInput lanes))) startRegisters
+pub start-held : (x10 : LaneWord) → length (x10 .values) ≡ lanes → (n : ℕ) → n ≤ registerCount
+    → Held n startHints (set (replicate places (unknown lanes)) 10 x10) (startRegisters n x10)
 unfolding heldWords fill atStart choose
-start-held = record {
-  told-size = refl;
+start-held x10 s n h = record {
+  hints-size = refl;
   words-size = refl;
   sized =
-      sized-set (replicate places (unknown lanes)) 10 (domain (inputs firstInput lanes)) refl (omega arith) domain-size
+      sized-set (replicate places (unknown lanes)) 10 x10 refl (omega arith) s
       (λ k h. rw (same-replicate places k (unknown lanes)) (unknown-size lanes));
-  size = refl;
-  same = refl;
+  most = h;
+  size = length-fill n 0 _;
+  same =
+      held-fewer n registerCount startHints (set (replicate places (unknown lanes)) 10 x10) h
+      ∙ sym (fill-fewer n registerCount 0 _ h);
 }

@@ -1,4 +1,4 @@
--- The first 32 event locations are kept, the others counted. Assumes nothing.
+-- The first event locations are kept, the others counted. Assumes nothing.
 use mathlib.Core.Path.{_≡_, refl, sym, ap, _∙_}
 use mathlib.Core.Bool.{Bool, true, false, _&&_}
 use mathlib.Core.List.{List, [], _∷_, _++_}
@@ -9,10 +9,11 @@ use lib.Dec.{eqb}
 use borrow.Author.Tests.{eq-eqb, eqb-true}
 use lib.ListN.{length, length-append, take, set}
 use lib.Seq.{take-all, take-append-le, take-suc-set}
+use Rattle.predicate_answer.specs.Blank.{maxEvents}
 use Rattle.predicate_semantics.specs.Choice.{choose}
 use Rattle.predicate_semantics.specs.State.{recorded}
 
-module _ (pc : ℕ) (kept ls : List ℕ) (size : length kept ≡ 32) (h : take (length ls) kept ≡ take 32 ls) where
+module _ (pc : ℕ) (kept ls : List ℕ) (size : length kept ≡ maxEvents) (h : take (length ls) kept ≡ take maxEvents ls) where
   longer : length (ls ++ pc ∷ []) ≡ suc (length ls)
   longer = simp length-append (omega arith)
 
@@ -20,20 +21,20 @@ module _ (pc : ℕ) (kept ls : List ℕ) (size : length kept ≡ 32) (h : take (
   counted b = mod-eq-of-lt (omega (arith, b)) ∙ omega (arith, longer)
 
   -- one more of the first
-  pub kept-first : length ls < 32 → take (length (ls ++ pc ∷ [])) (set kept (length ls) pc) ≡ take 32 (ls ++ pc ∷ [])
+  pub kept-first : length ls < maxEvents → take (length (ls ++ pc ∷ [])) (set kept (length ls) pc) ≡ take maxEvents (ls ++ pc ∷ [])
   kept-first b =
       ap (λ (k : ℕ). take k (set kept (length ls) pc)) longer
       ∙ take-suc-set kept (length ls) pc (omega (arith, size, b))
-      ∙ ap (λ (x : List ℕ). x ++ pc ∷ []) (h ∙ take-all 32 ls (omega (arith, b)))
-      ∙ sym (take-all 32 (ls ++ pc ∷ []) (omega (arith, longer, b)))
+      ∙ ap (λ (x : List ℕ). x ++ pc ∷ []) (h ∙ take-all maxEvents ls (omega (arith, b)))
+      ∙ sym (take-all maxEvents (ls ++ pc ∷ []) (omega (arith, longer, b)))
 
   -- one of the others
-  pub kept-others : 32 ≤ length ls → take (length (ls ++ pc ∷ [])) kept ≡ take 32 (ls ++ pc ∷ [])
+  pub kept-others : maxEvents ≤ length ls → take (length (ls ++ pc ∷ [])) kept ≡ take maxEvents (ls ++ pc ∷ [])
   kept-others b =
       take-all (length (ls ++ pc ∷ [])) kept (omega (arith, longer, size, b))
       ∙ sym (take-all (length ls) kept (omega (arith, size, b)))
       ∙ h
-      ∙ sym (take-append-le 32 ls (pc ∷ []) b)
+      ∙ sym (take-append-le maxEvents ls (pc ∷ []) b)
 
 -- an SW exactly at the event count's address, and every other step
 pub recorded-here : (c pc a n : ℕ) (ls : List ℕ) → n ≡ 4 → a ≡ c → recorded c pc a n ls ≡ ls ++ pc ∷ []

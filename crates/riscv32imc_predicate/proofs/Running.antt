@@ -8,50 +8,46 @@ use native.Mathlib.Omega.{arith}
 use lib.Dec.{leb, ltb}
 use lib.ListN.{length}
 use borrow.Author.Tests.{lt-ltb, ltb-true}
-use Rattle.lane_word.specs.Word as Word
 use Rattle.little_endian.specs.Lent.{over}
 use Rattle.rv32_arithmetic.specs.Arithmetic.{mul}
-use Rattle.riscv32imc.specs.Constants.{imageBase, maxImageBytes, maxSteps}
+use Rattle.riscv32imc.specs.Constants.{imageBase}
 use Rattle.lane_word.specs.declared.LaneWord.{LaneWord}
-use Rattle.lane_word.specs.Word.{constant, inputs}
-use Rattle.lane_word.proofs.Tab.{length-inputs}
+use Rattle.lane_word.specs.Word.{constant, lanes}
 use Rattle.predicate_answer.specs.declared.CompiledMmioEvent.{CompiledMmioEvent}
 use Rattle.predicate_answer.specs.declared.PredicateTransducerExecution.{PredicateTransducerExecution}
+use Rattle.predicate_answer.specs.declared.Rv32Error.{Rv32Error}
+use Rattle.predicate_answer.specs.Refusal.{Refusal, refusalOf}
+use Rattle.predicate_answer.specs.Blank.{maxEvents, noEvents}
 use Rattle.predicate_semantics.specs.declared.Rv32SymbolLayout.{Rv32SymbolLayout}
 use Rattle.predicate_semantics.specs.Choice.{choose}
-use Rattle.predicate_semantics.specs.Program.{stop, stopWord, eventStride, memoryEnd, sized, symbolsPlaced, inMemory}
-use Rattle.predicate_answer.specs.Blank.{maxEvents}
+use Rattle.predicate_semantics.specs.Program.{stop, stopWord, eventStride, memoryEnd, imageEnd, sized, symbolsPlaced, inMemory}
 use Rattle.predicate_semantics.specs.State.{Result}
 use Rattle.predicate_semantics.specs.Memory.{put, write}
-use Rattle.predicate_semantics.specs.Tested.{Tested, passed, refused, _>>=_, ifPassed, refuse, require}
-use Rattle.predicate_answer.specs.Refusal.{Refusal}
-use Rattle.predicate_semantics.specs.Lane.{LaneState, Ended, laneCount, on, run, after, begin, startTests, start, laneRun, reached, laneOperations, writtenBytes, execution, finish}
-use Rattle.predicate_semantics.specs.Standing.{standing, setup, standingLaneRun}
-use Rattle.predicate_answer.specs.Blank.{noExecution, noEvents}
+use Rattle.predicate_semantics.specs.Tested.{Tested, passed, refused, _>>=_, refuse, require}
+use Rattle.predicate_semantics.specs.Lane.{LaneState, Ended, laneCount, on, run, begin, startTests, start, laneRun, laneOperations, writtenBytes, execution, finish}
+use Rattle.predicate_semantics.specs.Kept.{Kept}
 use Rattle.predicate_semantics.proofs.Laws.{run-stop}
-use Rattle.predicate_semantics.proofs.RecordRules.{Kept, kept-start, events-located}
-use Rattle.predicate_semantics.proofs.Reached.{no-pass}
-use Rattle.predicate_trace.specs.Trace.{traceBytes}
+use Rattle.predicate_semantics.proofs.RecordRules.{kept-start, events-located}
+use Rattle.predicate_semantics.proofs.Reached.{no-pass, run-after, steps-after}
+use Rattle.predicate_trace.specs.Trace.{putEntries}
 use Rattle.lane_memory.specs.Rows.{rowCount, storeValues, cleared}
 use Rattle.lane_memory.specs.Holds.{Holds}
 use Rattle.lane_memory.proofs.Laws.{holds-store-value}
-use Rattle.predicate_answer.specs.declared.Rv32Error.{Rv32Error}
-use Rattle.lane_access.specs.declared.Verdict.{Verdict}
-use Rattle.lane_access.specs.declared.Verdict.the-variants as verdict
-use Rattle.predicate_answer.specs.Refusal.{refusalOf}
 use Rattle.lane_access.proofs.Laws.{above-write}
 use Rattle.riscv32imc_predicate.specs.declared.Place.{Place}
 use Rattle.riscv32imc_predicate.specs.declared.Ending.{Ending}
 use Rattle.riscv32imc_predicate.specs.declared.Ending.the-variants as ending
 use Rattle.riscv32imc_predicate.specs.declared.Recorded.{Recorded}
+use Rattle.riscv32imc_predicate.specs.declared.Registers.{Registers}
 use Rattle.riscv32imc_predicate.specs.declared.Reached.{Reached}
 use Rattle.riscv32imc_predicate.specs.declared.PredicateAnswer.the-variants as answer
 use Rattle.riscv32imc_predicate.specs.declared.PredicateRun.{PredicateRun}
-use Rattle.riscv32imc_predicate.specs.Tracking.{Call, called, program, space, firstState, rest, Tracks, Ends, Begins, Arrives, startPlace}
-use Rattle.predicate_trace.specs.Trace.{entryCount}
-use Rattle.riscv32imc_predicate.specs.Finishing.{Answers}
-use Rattle.riscv32imc_predicate.specs.Outcome.{runOver}
-use Rattle.riscv32imc_predicate.specs.Reporting.{refusedRun, Reports, Counts, Runs}
+use Rattle.riscv32imc_predicate.specs.Setting.{Setting, Fixed, fixed, firstState, rest, registersOf}
+use Rattle.riscv32imc_predicate.specs.Coming.{Ends}
+use Rattle.riscv32imc_predicate.specs.Register.{Held, startRegisters, StartsWith}
+use Rattle.riscv32imc_predicate.specs.Tracking.{machine, Tracks, Stands, Arrives, startPlace, startRecorded}
+use Rattle.riscv32imc_predicate.specs.Reporting.{refusedRun, Reports, Counts, Begins, whole, never, wholeRun, Calls, Runs}
+use Rattle.riscv32imc_predicate.proofs.LaneCount.{lane-count}
 
 pub off : (b : Bool) → not b ≡ true → b ≡ false
 off true e = sym e
@@ -71,38 +67,38 @@ abbrev resultAt : LaneState → ℕ → List CompiledMmioEvent → Result
 resultAt s value found = record { returnValue = value; steps = s .steps; trace = s .trace; events = found }
 
 -- the numbers of an accepted run, as the code has them
-abbrev numbersOf : Place → Recorded → ℕ → PredicateTransducerExecution
-numbersOf place noted value = record {
-  «first_input» = Word.firstInput;
-  «lane_count» = Word.lanes;
+abbrev numbersOf : ℕ → Place → Recorded → ℕ → PredicateTransducerExecution
+numbersOf first place noted value = record {
+  «first_input» = first;
+  «lane_count» = lanes;
   «return_value» = value;
   «symbolic_transitions» = place .steps;
-  «lane_value_operations» = mul Word.lanes (place .steps);
+  «lane_value_operations» = mul lanes (place .steps);
   «sparse_memory_bytes» = place .written;
   «event_count» = noted .count % 256;
 }
 
-module _ (c : Call) (s : LaneState) where
+module _ (c : Setting) (s : LaneState) where
   pub reports-refused : (t : Tested Result) (x : Rv32Error) (k : ℕ) → k ≡ s .steps → t ≡ refused (refusalOf x)
       → {r : PredicateRun} → r ≡ refusedRun x k → Reports c s t r
   reports-refused t x k e q h = rw (q, h) (record { says = refl; completed = e; numbers = refl; found = refl })
 
-  module _ {place : Place} {noted : Recorded} (at : Counts place noted s) where
+  module _ {first : ℕ} {place : Place} {noted : Recorded} (b : Begins c first) (at : Counts place noted s) where
     numbers-are : (value : ℕ) (found : List CompiledMmioEvent) → length found ≡ length (s .locations) → length found ≤ maxEvents
-        → numbersOf place noted value ≡ execution (program c) (space c) s (resultAt s value found)
-    unfolding execution laneCount laneOperations writtenBytes setup inputs
+        → numbersOf first place noted value ≡ execution (c .program) (c .setup) s (resultAt s value found)
+    unfolding execution laneOperations writtenBytes
     numbers-are value found f few =
-        let o : mul Word.lanes (place .steps) ≡ Word.lanes * s .steps
-        = mod-eq-of-lt (omega (arith, at .same-steps, at .bounded)) ∙ ap (λ (x : ℕ). Word.lanes * x) (at .same-steps) in
+        let o : mul lanes (place .steps) ≡ lanes * s .steps
+        = mod-eq-of-lt (omega (arith, at .same-steps, at .countable)) ∙ ap (λ (x : ℕ). lanes * x) (at .same-steps) in
         let n : noted .count % 256 ≡ length found = mod-eq-of-lt (omega (arith, at .same-count, f, few)) ∙ at .same-count ∙ sym f in
-        rw (o, n, at .same-written, at .same-steps) refl
+        rw (lane-count c (b .same-lanes), b .same-first, o, n, at .same-written, at .same-steps) refl
 
     pub reports-accepted : (value : ℕ) (found events : List CompiledMmioEvent) → events ≡ over found noEvents
-        → finish (program c) (space c) s ≡ passed (resultAt s value found)
-        → Reports c s (finish (program c) (space c) s)
-        (record { answer = answer.Accepted; steps = place .steps; execution = numbersOf place noted value; events = events })
+        → finish (c .program) (c .setup) s ≡ passed (resultAt s value found)
+        → Reports c s (finish (c .program) (c .setup) s)
+        (record { answer = answer.Accepted; steps = place .steps; execution = numbersOf first place noted value; events = events })
     reports-accepted value found events z q =
-        let f = events-located (program c) (space c) s (resultAt s value found) q in
+        let f = events-located (c .program) (c .setup) s (resultAt s value found) q in
         rw q (record {
           says = (resultAt s value found, refl);
           completed = at .same-steps;
@@ -117,47 +113,12 @@ four : (w : LaneWord) → 4 ≡ length (write [] 4 stop w)
 unfolding write put choose
 four w = refl
 
-module _ (c : Call) where
-  -- refused before any step
-  pub run-refused-first : (q : Refusal) → startTests (length (c .image)) (c .symbols) (c .rows) ≡ refused q
-      → standingLaneRun (c .image) (c .symbols) (c .rows) (entryCount (c .trace)) ≡ record { state = firstState c; answer = refused q }
-  unfolding standingLaneRun laneRun on start standing setup _>>=_
-  run-refused-first q h = rw h
-
-  module _ (h : startTests (length (c .image)) (c .symbols) (c .rows) ≡ passed tt) where
-    started : start (program c) (space c) ≡ passed (firstState c)
-    unfolding start standing setup _>>=_
-    started = rw h
-
-    pub run-is-rest : standingLaneRun (c .image) (c .symbols) (c .rows) (entryCount (c .trace)) ≡ rest c (firstState c)
-    unfolding standingLaneRun laneRun on begin
-    run-is-rest = rw started
-
-    kept-first : Kept (program c) (space c) (firstState c)
-    kept-first = kept-start (program c) (space c) _ started .0
-
-    -- the stop word is stored
-    pub begin-tracks : (rows : List ℕ) → Holds rows (c .rows) [] → Tracks c (startPlace (c .symbols .entry)) (storeValues rows 4 stop stopWord) (c .trace) (firstState c)
-    unfolding begin standing setup laneCount reached after ifPassed
-    begin-tracks rows k = record {
-      reached = rw started;
-      same-pc = refl;
-      same-steps = refl;
-      bounded = omega arith;
-      holds = rw (length-inputs Word.firstInput Word.lanes) (holds-store-value k 4 stop stopWord (omega arith) (rw (length-inputs Word.firstInput Word.lanes) at (kept-first .stored .most)));
-      above = above-write (imageBase + length (c .image)) 4 stop (constant (length (inputs Word.firstInput Word.lanes)) stopWord) [] (omega (arith, kept-first .fits .1)) tt;
-      same-written = four (constant (length (inputs Word.firstInput Word.lanes)) stopWord);
-      traced = refl;
-    }
-
--- ---- the whole run
-
 and-right : (a b : Bool) → (a && b) ≡ true → b ≡ true
 and-right true b q = q
 and-right false true q = refl
 and-right false false q = q
 
-placed-true : (size : ℕ) (symbols : Rv32SymbolLayout) (n : ℕ) → startTests size symbols n ≡ passed tt → symbolsPlaced symbols ≡ true
+placed-true : (size : ℕ) (symbols : Rv32SymbolLayout) (n : ℕ) → startTests size symbols (passed tt) n ≡ passed tt → symbolsPlaced symbols ≡ true
 unfolding startTests _>>=_ require refuse
 placed-true size symbols n = go (sized size) (symbolsPlaced symbols) (leb 4 n)
   where
@@ -167,52 +128,102 @@ placed-true size symbols n = go (sized size) (symbolsPlaced symbols) (leb 4 n)
     go false b c q = absurd (no-pass q)
 
 -- every event lies below 2^32
-pub events-low : (size : ℕ) (symbols : Rv32SymbolLayout) (n : ℕ) → startTests size symbols n ≡ passed tt → symbols .events + maxEvents * eventStride ≤ 2 ^ 32
+pub events-low : (size : ℕ) (symbols : Rv32SymbolLayout) (n : ℕ) → startTests size symbols (passed tt) n ≡ passed tt → symbols .events + maxEvents * eventStride ≤ 2 ^ 32
 unfolding symbolsPlaced inMemory
 events-low size symbols n h =
     let e : ℕ = symbols .events in
     let m = and-right (inMemory (symbols .entry) && inMemory (symbols .«event_count»)) (leb imageBase e && ltb e memoryEnd) (placed-true size symbols n h) in
     omega (arith, ltb-true e memoryEnd (and-right (leb imageBase e) (ltb e memoryEnd) m))
 
-module _ (image : List ℕ) (symbols : Rv32SymbolLayout) (rows trace : List ℕ) where
-  -- over as many rows
-  recalled : (rows′ : List ℕ) → rowCount rows′ ≡ rowCount rows → called image symbols rows′ trace ≡ called image symbols rows trace
-  recalled rows′ e = rw e
+module _ {c : Setting} {image : List ℕ} {symbols : Rv32SymbolLayout} {first : ℕ} {x10 : LaneWord} {limit : ℕ} {rows trace : List ℕ}
+    (k : Calls c image symbols first x10 limit rows trace) where
+  -- what the loop is given
+  abbrev pub loopFixed : Fixed
+  loopFixed = fixed image symbols (wholeRun limit trace)
 
-  -- the loop's start
-  pub begins : Holds rows (rowCount rows) [] × (startTests (length image) symbols (rowCount rows) ≡ passed tt)
-      → {rows′ : List ℕ} → rows′ ≡ storeValues rows 4 stop stopWord → {place : Place} → place ≡ startPlace (symbols .entry)
-      → Begins (called image symbols rows′ trace) rows′ place × (rowCount rows′ ≡ rowCount rows)
-  begins (h, k) {rows′} e {place} q =
-      let c : Call = called image symbols rows trace in
-      let t : Begins c rows′ place = rw (q, e) (begin-tracks c k rows h) in
-      let same : rowCount rows′ ≡ rowCount rows = t .holds .rows in
-      (subst (λ (d : Call). Begins d rows′ place) (sym (recalled rows′ same)) t, same)
+  -- the tests before any step are the setting's
+  same-tests : (t : Tested (Unit {0})) → startTests (length image) symbols (passed tt) (rowCount rows) ≡ t
+      → startTests (length (c .program .image)) (c .program .symbols) (c .setup .choice) (c .setup .rows) ≡ t
+  same-tests t e = rw (k .serves .same-image, k .serves .same-symbols, k .same-choice, k .same-rows) e
 
-  pub runs-as : (e : Ended) → runOver image symbols rows trace ≡ e → {r : PredicateRun} {rows′ trace′ : List ℕ}
-      → Reports (called image symbols rows trace) (e .state) (e .answer) r → (trace′ ≡ over (traceBytes (e .state .trace)) trace) × (cleared rows′ ≡ cleared rows)
-      → Runs image symbols rows trace r rows′ trace′
-  runs-as e same t b = record { reports = rw same t; entries = rw same (b .0); same-rows = b .1 }
+  -- refused before any step
+  pub run-refused-first : (q : Refusal) → startTests (length image) symbols (passed tt) (rowCount rows) ≡ refused q
+      → whole c ≡ record { state = firstState c; answer = refused q }
+  unfolding laneRun on start _>>=_
+  run-refused-first q h = rw (same-tests (refused q) h)
 
-  -- the loop ended over as many rows
-  pub arrives : (rows₁ : List ℕ) {q : Reached} {rows″ trace″ : List ℕ} → rowCount rows₁ ≡ rowCount rows → Arrives (called image symbols rows₁ trace) q rows″ trace″
-      → Arrives (called image symbols rows trace) q rows″ trace″
-  arrives rows₁ {q} {rows″} {trace″} z a = subst (λ (d : Call). Arrives d q rows″ trace″) (recalled rows₁ z) a
+  module _ (h : startTests (length image) symbols (passed tt) (rowCount rows) ≡ passed tt) where
+    started : start (c .program) (c .setup) ≡ passed (firstState c)
+    unfolding start _>>=_
+    started = rw (same-tests (passed tt) h)
 
--- where the loop ended
-module _ {c : Call} {q : Reached} {rows trace : List ℕ} (k : startTests (length (c .image)) (c .symbols) (c .rows) ≡ passed tt) (a : Arrives c q rows trace) where
-  pub ended-refused : (x : Rv32Error) → q .ending ≡ ending.Refused x
-      → standingLaneRun (c .image) (c .symbols) (c .rows) (entryCount (c .trace)) ≡ record { state = a .state; answer = refused (refusalOf x) }
-  ended-refused x e = run-is-rest c k ∙ a .same-rest ∙ subst (λ (y : Ending). Ends c y (a .state)) e (a .ends)
+    run-is-rest : whole c ≡ rest c (firstState c)
+    unfolding laneRun on begin
+    run-is-rest = let e : c .limit - 0 ≡ c .limit = omega arith in rw (started, e)
 
-  pub ended-arrived : q .ending ≡ ending.Arrived
-      → standingLaneRun (c .image) (c .symbols) (c .rows) (entryCount (c .trace)) ≡ record { state = a .state; answer = finish (program c) (space c) (a .state) }
-  ended-arrived e = run-is-rest c k ∙ a .same-rest ∙ run-stop (program c) (space c) _ (a .state) (subst (λ (y : Ending). Ends c y (a .state)) e (a .ends))
+    kept-first : Kept (c .program) (c .setup) (firstState c)
+    kept-first = kept-start (c .program) (c .setup) _ started .0
 
-  pub counts : Counts (q .place) (q .recorded) (a .state)
-  counts = record {
-    same-steps = a .tracks .same-steps;
-    bounded = a .tracks .bounded;
-    same-written = a .tracks .same-written;
-    same-count = a .keeps .0;
-  }
+    -- the registers of the start
+    begin-held : {r : Registers} → StartsWith x10 r → Held (registersOf c) (r .hints) (r .words) (firstState c .registers)
+    unfolding begin
+    begin-held {r} w =
+        rw (lane-count c (k .serves .same-lanes), k .same-domain) (w (registersOf c) (k .serves .most-registers))
+
+    -- the stop word is stored
+    pub begin-stands : Holds rows (rowCount rows) [] → {rows′ : List ℕ} → rows′ ≡ storeValues rows 4 stop stopWord → {place : Place} → place ≡ startPlace (symbols .entry)
+        → {r : Registers} → StartsWith x10 r → {noted : Recorded} → noted ≡ startRecorded → Stands c loopFixed (machine place r noted rows′ trace) (firstState c)
+    unfolding begin putEntries
+    begin-stands j {rows′} e {place} p {r} w {noted} n =
+        let b : Holds rows (c .setup .rows) [] = rw (k .same-rows) j in
+        rw (e, p, n) (record {
+          serves = k .serves;
+          tracks = record {
+            kept = kept-first;
+            same-pc = ap (λ (x : Rv32SymbolLayout). x .entry) (sym (k .serves .same-symbols));
+            same-steps = refl;
+            bounded = omega arith;
+            holds = rw (lane-count c (k .serves .same-lanes)) (holds-store-value b 4 stop stopWord (omega arith) (rw (lane-count c (k .serves .same-lanes)) at (kept-first .stored .most)));
+            above = above-write (imageEnd (c .program)) 4 stop (constant (laneCount (c .program) (c .setup)) stopWord) [] (omega (arith, kept-first .fits .1)) tt;
+            same-written = four (constant (laneCount (c .program) (c .setup)) stopWord);
+            traced = sym (k .same-lent);
+          };
+          keeps = (refl, refl);
+          held = begin-held w;
+        })
+
+    -- ---- where the loop ended
+    module _ {q : Reached} {rows′ trace′ : List ℕ} (a : Arrives c loopFixed (firstState c) q rows′ trace′) where
+      arrived-rest : whole c ≡ rest c (a .state)
+      unfolding begin
+      arrived-rest =
+          let s = steps-after (c .program) (c .setup) (a .taken) (firstState c) (a .after) in
+          run-is-rest
+          ∙ run-after (c .program) (c .setup) (a .taken) _ (c .limit - a .state .steps) (firstState c) (omega (arith, s, a .stands .tracks .bounded)) (a .after)
+
+      ends-as : (y : Ending) → q .ending ≡ y → Ends c never y (a .state)
+      ends-as y e = subst (λ (x : Ending). Ends c never x (a .state)) e (a .ends)
+
+      pub ended-refused : (x : Rv32Error) → q .ending ≡ ending.Refused x → whole c ≡ record { state = a .state; answer = refused (refusalOf x) }
+      ended-refused x e = arrived-rest ∙ ends-as (ending.Refused x) e
+
+      pub ended-arrived : q .ending ≡ ending.Arrived → whole c ≡ record { state = a .state; answer = finish (c .program) (c .setup) (a .state) }
+      ended-arrived e = arrived-rest ∙ run-stop (c .program) (c .setup) _ (a .state) (ends-as ending.Arrived e)
+
+      few-steps : a .state .steps ≤ limit
+      few-steps = omega (arith, a .stands .tracks .bounded, k .serves .same-limit)
+
+      pub never-paused : q .ending ≡ ending.Paused → ⊥
+      never-paused e = omega (arith, ends-as ending.Paused e .1, few-steps, k .countable)
+
+      pub counts : Counts (q .place) (q .recorded) (a .state)
+      counts = record {
+        same-steps = a .stands .tracks .same-steps;
+        countable = omega (arith, few-steps, k .countable);
+        same-written = a .stands .tracks .same-written;
+        same-count = a .stands .keeps .0;
+      }
+
+  pub runs-as : {e : Ended} → whole c ≡ e → {r : PredicateRun} {rows′ trace′ : List ℕ}
+      → Reports c (e .state) (e .answer) r → trace′ ≡ putEntries (c .lent) 0 (e .state .trace) → cleared rows′ ≡ cleared rows → Runs c r rows rows′ trace′
+  runs-as same t b z = record { reports = rw same t; entries = rw same b; same-rows = z }

@@ -8,13 +8,12 @@ use Rattle.riscv32imc.specs.Constants.{imageBase}
 use Rattle.lane_word.specs.declared.LaneWord.{LaneWord}
 use Rattle.lane_word.specs.declared.Uniform.{Uniform}
 use Rattle.lane_word.specs.declared.Uniform.the-variants.{Value, Unknown, Uneven}
-use Rattle.lane_word.specs.Word.{constant, unary, inputs, uniformOf, firstInput, lanes}
+use Rattle.lane_word.specs.Word.{constant, unary, uniformOf, lanes}
 use Rattle.predicate_semantics.specs.Choice.{choose}
-use Rattle.predicate_semantics.specs.Program.{Program}
 use Rattle.predicate_semantics.specs.State.{Effect, goes, sets, stores}
 use Rattle.predicate_semantics.specs.Memory.{LaneBytes, read, write}
 use Rattle.predicate_semantics.specs.Tested.{Tested, passed, refused, _>>=_, require}
-use Rattle.predicate_semantics.specs.Lane.{LaneState, Setup, memoryOf, inside, agreedAs, access, roomFor, reg, execute}
+use Rattle.predicate_semantics.specs.Lane.{LaneState, memoryOf, inside, agreedAs, access, roomFor, reg, execute}
 use Rattle.predicate_action.specs.declared.Action.{Action}
 use Rattle.predicate_action.specs.declared.Extension.{Extension}
 use Rattle.predicate_action.specs.Meaning.{extensionOf}
@@ -22,6 +21,7 @@ use Rattle.predicate_action.specs.Reading.{readingOf, computed}
 use Rattle.lane_memory.specs.Rows.{rowCount, newBytes}
 use Rattle.lane_access.specs.Seen.{seen}
 use Rattle.predicate_answer.specs.Refusal.{refusalOf}
+use Rattle.riscv32imc_predicate.specs.Setting.{Setting}
 use Rattle.riscv32imc_predicate.specs.declared.Change.{Change}
 use Rattle.riscv32imc_predicate.specs.declared.Change.the-variants as change
 use Rattle.riscv32imc_predicate.specs.declared.Decision.{Decision}
@@ -75,11 +75,11 @@ lastTested t steps entries = do
   passed effect
 
 -- the code is given a state of the semantics: its memory as image and rows show it, and how many bytes are written
-pub record Given (p : Program) (l : Setup) (s : LaneState) (image rows : List ℕ) (written : ℕ) : Type 0 where
-  pub same-inputs : l .inputs ≡ inputs firstInput lanes
-  pub is-image : p .image ≡ image
-  pub lent : l .rows ≡ rowCount rows
-  pub bytes : memoryOf p l s ≡ seen image rows
+pub record Given (c : Setting) (s : LaneState) (image rows : List ℕ) (written : ℕ) : Type 0 where
+  pub same-lanes : length (c .setup .inputs) ≡ lanes
+  pub is-image : c .program .image ≡ image
+  pub lent : c .setup .rows ≡ rowCount rows
+  pub bytes : memoryOf (c .program) (c .setup) s ≡ seen image rows
   pub room : (n a : ℕ) (w : LaneWord) → a + n ≤ 2 ^ 32 → length (write (s .memory) n a w) ≡ written + newBytes rows n a
 
 -- ---- the forms, by what is told of the computed word
@@ -103,7 +103,7 @@ Branches x tested to next =
 abbrev pub LoadsFrom : List ℕ → List ℕ → Decision → ℕ → Uniform → ℕ → Extension → ℕ → Type 0
 LoadsFrom image rows x rd tested n e next =
     (w r : LaneWord) → decisionOf (seen image rows) w r x
-    ≡ (agreedAs 3 tested >>= λ address. access (inputs firstInput lanes) (seen image rows) n address >>= λ v. passed (sets rd (unary (extensionOf e) v) next))
+    ≡ (agreedAs 3 tested >>= λ address. access lanes (seen image rows) n address >>= λ v. passed (sets rd (unary (extensionOf e) v) next))
 
 -- a store's address is agreed on, then its room
 abbrev pub StoresTo : List ℕ → ℕ → ℕ → Decision → Uniform → ℕ → ℕ → Type 0
@@ -111,9 +111,9 @@ StoresTo rows written size x tested n next =
     Always x (λ r. agreedAs 4 tested >>= λ address. roomFor (imageBase + size) (rowCount rows) address n (written + newBytes rows n address) >>= λ _. passed (stores address n r next))
 
 -- the registers that an action names have these words, and what is told is told of the word that it computes
-pub record Sources (p : Program) (l : Setup) (s : LaneState) (action : Action) (left right : LaneWord) (tested : Uniform) : Type 0 where
-  pub first : reg p l s (readingOf action .rs1) ≡ left
-  pub second : reg p l s (readingOf action .rs2) ≡ right
+pub record Sources (c : Setting) (s : LaneState) (action : Action) (left right : LaneWord) (tested : Uniform) : Type 0 where
+  pub first : reg (c .program) (c .setup) s (readingOf action .rs1) ≡ left
+  pub second : reg (c .program) (c .setup) s (readingOf action .rs2) ≡ right
   pub left-size : length (left .values) ≡ lanes
   pub right-size : length (right .values) ≡ lanes
   pub told : tested ≡ uniformOf (computed (readingOf action) left right)
@@ -121,6 +121,6 @@ pub record Sources (p : Program) (l : Setup) (s : LaneState) (action : Action) (
 -- what the code executes is what the semantics does in every state that gives it these sources
 abbrev pub ExecutesAction : List ℕ → List ℕ → ℕ → Decision → ℕ → Uniform → Action → Type 0
 ExecutesAction image rows written x next tested action =
-    (p : Program) (l : Setup) (s : LaneState) → Given p l s image rows written
-    → (left right : LaneWord) → Sources p l s action left right tested
-    → decisionOf (seen image rows) (computed (readingOf action) left right) right x ≡ execute p l s next action
+    (c : Setting) (s : LaneState) → Given c s image rows written
+    → (left right : LaneWord) → Sources c s action left right tested
+    → decisionOf (seen image rows) (computed (readingOf action) left right) right x ≡ execute (c .program) (c .setup) s next action

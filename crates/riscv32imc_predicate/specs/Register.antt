@@ -1,14 +1,14 @@
 -- The registers as the loop holds them: each told by one value, or by the lanes of its word.
-use mathlib.Core.Bool.{cond}
+use mathlib.Core.Bool.{false, cond}
 use mathlib.Core.List.{List, [], _∷_}
 use mathlib.Core.Path.{_≡_}
 use Prim.Native.Nat.{ℕ, zero, suc, _+_, _≤_, _<_, _^_}
 use lib.Dec.{eqb, ltb}
-use lib.ListN.{length, getD, set, replicate}
+use lib.ListN.{length, getD, set}
 use Rattle.lane_word.specs.declared.LaneWord.{LaneWord}
 use Rattle.lane_word.specs.declared.Told.{Told}
 use Rattle.lane_word.specs.declared.Told.the-variants.{Value, Lanes}
-use Rattle.lane_word.specs.Word.{constant, unknown, domain, inputs, unary, firstInput, lanes}
+use Rattle.lane_word.specs.Word.{constant, unknown, unary, lanes}
 use Rattle.lane_word.specs.Told.{wordOf}
 use Rattle.predicate_semantics.specs.Program.{stop, stackPointer}
 use Rattle.predicate_semantics.specs.State.{fill, atStart}
@@ -21,11 +21,11 @@ use Rattle.predicate_action.specs.Meaning.{extensionOf}
 use Rattle.lane_memory.specs.Rows.{newBytes, cleared}
 use Rattle.lane_memory.specs.Holds.{Holds}
 use Rattle.lane_access.specs.Seen.{seen}
+use Rattle.riscv32imc_predicate.specs.declared.Hint.{Hint}
+use Rattle.riscv32imc_predicate.specs.declared.Registers.{Registers}
+use Rattle.riscv32imc_predicate.specs.Setting.{registerCount}
 
--- how many registers there are; after their words come two operands that are one value, and what is set in x0
-abbrev pub registerCount : ℕ
-registerCount = 32
-
+-- after the registers' words come two operands that are one value, and what is set in x0
 abbrev pub firstOperand : ℕ
 firstOperand = registerCount
 
@@ -39,32 +39,40 @@ abbrev pub places : ℕ
 places = registerCount + 3
 
 -- the words of the first n places
-unfoldable pub heldWords : ℕ → List Told → List LaneWord → List LaneWord
+unfoldable pub heldWords : ℕ → List Hint → List LaneWord → List LaneWord
 heldWords zero us ws = []
 heldWords (suc n) [] ws = []
 heldWords (suc n) (u ∷ us) [] = []
-heldWords (suc n) (u ∷ us) (w ∷ ws) = wordOf u w ∷ heldWords n us ws
+heldWords (suc n) (u ∷ us) (w ∷ ws) = wordOf (u .told) w ∷ heldWords n us ws
 
--- the places hold the registers; every word has its lanes
-pub record Held (told : List Told) (words registers : List LaneWord) : Type 0 where
-  pub told-size : length told ≡ places
+-- the places hold n registers; every word has its lanes
+pub record Held (n : ℕ) (hints : List Hint) (words registers : List LaneWord) : Type 0 where
+  pub hints-size : length hints ≡ places
   pub words-size : length words ≡ places
   pub sized : (k : ℕ) → k < places → length (getD words k (unknown lanes) .values) ≡ lanes
-  pub size : length registers ≡ registerCount
-  pub same : heldWords registerCount told words ≡ registers
+  pub most : n ≤ registerCount
+  pub size : length registers ≡ n
+  pub same : heldWords n hints words ≡ registers
 
 -- `Control step`: four registers are known before any step, no other
-abbrev pub startRegisters : List LaneWord
-startRegisters =
-    fill registerCount 0 (atStart (constant lanes 0) (constant lanes stop) (constant lanes stackPointer) (domain (inputs firstInput lanes)) (λ _. unknown lanes))
+abbrev pub startRegisters : ℕ → LaneWord → List LaneWord
+startRegisters n x10 =
+    fill n 0 (atStart (constant lanes 0) (constant lanes stop) (constant lanes stackPointer) x10 (λ _. unknown lanes))
 
--- x0, x1 and x2 are told by their values
-abbrev pub startTold : List Told
-startTold = set (set (set (replicate places Lanes) 0 (Value 0)) 1 (Value stop)) 2 (Value stackPointer)
+-- what stands for a word that is not there
+abbrev pub blank : LaneWord
+blank = record { values = []; known = false }
 
--- the words that hold the first registers
-abbrev pub StartWords : List LaneWord → Type 0
-StartWords words = Held startTold words startRegisters
+-- a word that one value tells, and one that its lanes do
+abbrev pub value : ℕ → Hint
+value v = record { told = Value v }
+
+abbrev pub byLanes : Hint
+byLanes = record { told = Lanes }
+
+-- the first registers of every core that the code has places for
+abbrev pub StartsWith : LaneWord → Registers → Type 0
+StartsWith x10 r = (n : ℕ) → n ≤ registerCount → Held n (r .hints) (r .words) (startRegisters n x10)
 
 -- where a register is set: x0, and what is no register, at the place that is not read
 abbrev pub slotOf : ℕ → ℕ

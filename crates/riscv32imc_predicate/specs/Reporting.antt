@@ -1,28 +1,29 @@
 -- What the code answers of a run that ended, and the run over rows without a mark.
 use mathlib.Core.List.{List}
 use mathlib.Core.Path.{_≡_}
-use Prim.Native.Nat.{ℕ, _≤_}
-use lib.ListN.{length}
-use Rattle.little_endian.specs.Lent.{over}
-use Rattle.riscv32imc.specs.Constants.{maxSteps}
+use Prim.Native.Nat.{ℕ, _*_, _^_, _<_}
+use lib.ListN.{length, getD}
+use Rattle.lane_word.specs.declared.LaneWord.{LaneWord}
+use Rattle.lane_word.specs.Word.{domain, lanes}
+use Rattle.predicate_answer.specs.declared.PredicateTransducerExecution.{PredicateTransducerExecution}
+use Rattle.predicate_answer.specs.declared.Rv32Error.{Rv32Error}
+use Rattle.predicate_answer.specs.Refusal.{refusalOf}
+use Rattle.predicate_answer.specs.Blank.{noExecution, noEvents}
 use Rattle.predicate_semantics.specs.declared.Rv32SymbolLayout.{Rv32SymbolLayout}
 use Rattle.predicate_semantics.specs.State.{Result}
 use Rattle.predicate_semantics.specs.Tested.{Tested, passed, refused}
-use Rattle.predicate_semantics.specs.Lane.{LaneState, finish}
-use Rattle.predicate_answer.specs.Blank.{noExecution, noEvents}
-use Rattle.predicate_trace.specs.Trace.{traceBytes}
-use Rattle.lane_memory.specs.Rows.{cleared}
-use Rattle.predicate_answer.specs.declared.Rv32Error.{Rv32Error}
-use Rattle.predicate_answer.specs.Refusal.{refusalOf}
+use Rattle.predicate_semantics.specs.Lane.{LaneState, Ended, finish, laneRun, execution}
+use Rattle.predicate_trace.specs.Trace.{entryCount, putEntries}
+use Rattle.lane_memory.specs.Rows.{rowCount, cleared}
+use Rattle.riscv32imc_predicate.specs.declared.Bounds.{Bounds}
 use Rattle.riscv32imc_predicate.specs.declared.Place.{Place}
 use Rattle.riscv32imc_predicate.specs.declared.Recorded.{Recorded}
 use Rattle.riscv32imc_predicate.specs.declared.finish.Finished.{Finished}
 use Rattle.riscv32imc_predicate.specs.declared.PredicateAnswer.{PredicateAnswer}
 use Rattle.riscv32imc_predicate.specs.declared.PredicateAnswer.the-variants as answer
 use Rattle.riscv32imc_predicate.specs.declared.PredicateRun.{PredicateRun}
-use Rattle.riscv32imc_predicate.specs.Outcome.{executionIn, eventsIn, runOver}
-use Rattle.predicate_trace.specs.Trace.{entryCount}
-use Rattle.riscv32imc_predicate.specs.Tracking.{Call, called, program, space}
+use Rattle.riscv32imc_predicate.specs.Outcome.{eventsIn}
+use Rattle.riscv32imc_predicate.specs.Setting.{Setting, fixed, Serves}
 use Rattle.riscv32imc_predicate.specs.Finishing.{Answers}
 
 -- a refusal, with the completed steps
@@ -34,29 +35,61 @@ abbrev pub Says : PredicateAnswer → Tested Result → Type 0
 Says answer.Accepted t = (result : Result) × (t ≡ passed result)
 Says (answer.Refused x) t = t ≡ refused (refusalOf x)
 
+-- the numbers beside an answer, none after a refusal
+abbrev pub executionOf : Setting → LaneState → Tested Result → PredicateTransducerExecution
+executionOf c s (passed r) = execution (c .program) (c .setup) s r
+executionOf c s (refused q) = noExecution
+
 -- what the code answers of a run that ended in a state with an answer
-pub record Reports (c : Call) (s : LaneState) (t : Tested Result) (r : PredicateRun) : Type 0 where
+pub record Reports (c : Setting) (s : LaneState) (t : Tested Result) (r : PredicateRun) : Type 0 where
   pub says : Says (r .answer) t
   pub completed : r .steps ≡ s .steps
-  pub numbers : r .execution ≡ executionIn (c .image) (c .symbols) (c .rows) (entryCount (c .trace)) s t
+  pub numbers : r .execution ≡ executionOf c s t
   pub found : r .events ≡ eventsIn t
 
--- a place and a count of events are of a state
+-- a place and a count of events are of a state, and so many operations fit a word
 pub record Counts (place : Place) (noted : Recorded) (s : LaneState) : Type 0 where
   pub same-steps : place .steps ≡ s .steps
-  pub bounded : s .steps ≤ maxSteps
+  pub countable : lanes * s .steps < 2 ^ 32
   pub same-written : place .written ≡ length (s .memory)
   pub same-count : noted .count ≡ length (s .locations)
 
+-- a setting's inputs: which is first, and that there is a lane for each
+pub record Begins (c : Setting) (first : ℕ) : Type 0 where
+  pub same-first : getD (c .setup .inputs) 0 0 ≡ first
+  pub same-lanes : length (c .setup .inputs) ≡ lanes
+
 -- the answer at stop, reported for every state there
-abbrev pub Answered : Place → Recorded → Finished → PredicateRun → Type 0
-Answered place noted finished r =
-    (c : Call) (s : LaneState) → Counts place noted s
-    → Answers (finished .verdict) (finished .«return_value») (finished .events) s (finish (program c) (space c) s)
-    → Reports c s (finish (program c) (space c) s) r
+abbrev pub Answered : ℕ → Place → Recorded → Finished → PredicateRun → Type 0
+Answered first place noted finished r =
+    (c : Setting) (s : LaneState) → Begins c first → Counts place noted s
+    → Answers (finished .verdict) (finished .«return_value») (finished .events) s (finish (c .program) (c .setup) s)
+    → Reports c s (finish (c .program) (c .setup) s) r
+
+-- more steps than any run has
+abbrev pub never : ℕ
+never = 0xFFFFFFFF
+
+-- a call of the loop that goes on to the run's end, with the whole entries of a trace
+abbrev pub wholeRun : ℕ → List ℕ → Bounds
+wholeRun limit trace = record { limit = limit; pause = never; entries = entryCount trace }
+
+-- the whole run of a setting
+abbrev pub whole : Setting → Ended
+whole c = laneRun (c .program) (c .setup) (c .limit)
+
+-- what the run is called with is a setting's
+pub record Calls (c : Setting) (image : List ℕ) (symbols : Rv32SymbolLayout) (first : ℕ) (x10 : LaneWord) (limit : ℕ) (rows trace : List ℕ) : Type 0 where
+  pub serves : Serves c (fixed image symbols (wholeRun limit trace))
+  pub begins : Begins c first
+  pub same-domain : domain (c .setup .inputs) ≡ x10
+  pub same-choice : c .setup .choice ≡ passed tt
+  pub same-rows : c .setup .rows ≡ rowCount rows
+  pub same-lent : c .lent ≡ trace
+  pub countable : lanes * limit < 2 ^ 32
 
 -- the run over rows that hold nothing yet
-pub record Runs (image : List ℕ) (symbols : Rv32SymbolLayout) (rows trace : List ℕ) (r : PredicateRun) (rows′ trace′ : List ℕ) : Type 0 where
-  pub reports : Reports (called image symbols rows trace) ((runOver image symbols rows trace) .state) ((runOver image symbols rows trace) .answer) r
-  pub entries : trace′ ≡ over (traceBytes ((runOver image symbols rows trace) .state .trace)) trace
+pub record Runs (c : Setting) (r : PredicateRun) (rows rows′ trace′ : List ℕ) : Type 0 where
+  pub reports : Reports c (whole c .state) (whole c .answer) r
+  pub entries : trace′ ≡ putEntries (c .lent) 0 (whole c .state .trace)
   pub same-rows : cleared rows′ ≡ cleared rows

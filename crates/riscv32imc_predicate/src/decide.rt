@@ -1,6 +1,7 @@
 // What an operation comes to, with the tests that it makes: a change and where the run goes on, or a refusal.
 use super::Change;
 use super::Decision;
+use super::Place;
 use super::Progress;
 use lane_access::Agreed;
 use lane_access::Loading;
@@ -22,7 +23,7 @@ ghost use Rattle.predicate_action.specs.Meaning.{extensionOf};
 ghost use Rattle.predicate_semantics.specs.Lane.{roomFor};
 ghost use Rattle.lane_memory.specs.Rows.{rowCount, newBytes};
 ghost use Rattle.lane_access.specs.Answers.{verdictOf};
-ghost use Rattle.riscv32imc_predicate.specs.Changes.{Suits, changeOf, SetsComputed, JumpsTo, Branches, LoadsFrom, StoresTo, ExecutesAction};
+ghost use Rattle.riscv32imc_predicate.specs.Changes.{Suits, SetsComputed, JumpsTo, Branches, LoadsFrom, StoresTo, ExecutesAction};
 ghost use Rattle.riscv32imc_predicate.specs.Tracking.{LastTested, Decides};
 
 // A computed word that is uniform is set as one value.
@@ -237,26 +238,16 @@ fn last_test(decision: Decision, steps: u32, entries: usize) -> Decision
 // What the fetched step comes to, by what is told of the word that it computes.
 pub fn decide(
     progress: Progress,
+    place: Place,
     tested: Uniform,
     image: &[u8],
     rows: &[u8],
     entries: usize,
 ) -> Decision
-    ensures { λ r. ⌜ Decides (now (image .entry)) (now (rows .entry)) progress tested entries r × Suits tested r ⌝ }
+    ensures { λ r. ⌜ Decides (now (image .entry)) (now (rows .entry)) progress place tested entries r × Suits tested r ⌝ }
 {
-    let place = progress.place;
     let action = progress.action;
     let following = rv32_add(place.pc, progress.length);
     let decision = execute(action, following, tested, image, rows, place.written);
     last_test(decision, place.steps, entries)
-}
-
-// What a decision changes; a refusal nothing.
-pub fn change_of(decision: Decision) -> Change
-    ensures { λ r. ⌜ r ≡ changeOf decision ⌝ }
-{
-    match decision {
-        Decision::Goes { change, .. } => change,
-        Decision::Refused(_) => Change::Nothing,
-    }
 }

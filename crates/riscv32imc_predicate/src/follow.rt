@@ -1,18 +1,15 @@
-// After a decision: the step's trace entry, its location, the next place.
-use super::Decision;
+// After a decision: the location of an event, the step's trace entry, the next place.
 use super::EVENT_LIMIT;
-use super::Ending;
 use super::Place;
-use super::Progress;
 use super::Recorded;
-use super::ready::ended;
-use super::ready::ready;
 use predicate_trace::ENTRY_BYTES;
 use predicate_trace::PredicateControlStep;
 use predicate_trace::put_entry;
 use rv32_arithmetic::rv32_add;
 ghost use mathlib.Core.Path.{_≡_};
-ghost use Rattle.riscv32imc_predicate.specs.Tracking.{movedTo, Added, Located, Completes, Follows};
+ghost use Prim.Native.Nat.{_*_, _%_};
+ghost use Rattle.predicate_trace.specs.Trace.{entryBytes, putEntry};
+ghost use Rattle.riscv32imc_predicate.specs.Tracking.{movedTo, entryBy, Added, Located};
 
 // One location more: the first are kept, the others counted.
 fn added(recorded: Recorded, pc: u32) -> Recorded
@@ -52,43 +49,24 @@ fn moved(place: Place, next: u32, new: u32) -> Place
     }
 }
 
-// A step that passed its tests: its entry, and what comes after it.
-fn complete(
-    progress: Progress,
+// A step that passed its tests, with `new` bytes at addresses that had none: its entry, and the place after it.
+pub fn complete(
+    place: Place,
+    word: u32,
+    length: u32,
     next: u32,
     new: u32,
-    image: &[u8],
-    rows: &[u8],
     trace: &mut [u8],
-) -> Progress
-    ensures { λ r. ⌜ Completes (now (image .entry)) (now (rows .entry)) progress next new (now (trace .entry)) r (now (trace .exit)) ⌝ }
+) -> Place
+    ensures { λ r. ⌜ (r ≡ movedTo place next new) × (now (trace .exit) ≡ putEntry (now (trace .entry)) (place .steps * entryBytes) (entryBy (place .pc) word («length» % 256) next)) ⌝ }
 {
-    let place = progress.place;
     let at = (place.steps as usize) * ENTRY_BYTES;
     let entry = PredicateControlStep {
         program_counter: place.pc,
-        instruction_word: progress.word,
-        instruction_bytes: (progress.length % 256) as u8,
+        instruction_word: word,
+        instruction_bytes: (length % 256) as u8,
         next_program_counter: next,
     };
     put_entry(trace, at, entry);
-    let after = moved(place, next, new);
-    ready(after, image, rows)
-}
-
-// What comes after a decision whose change is made, with `new` bytes at addresses that had none.
-pub fn follow(
-    progress: Progress,
-    decision: Decision,
-    new: u32,
-    image: &[u8],
-    rows: &[u8],
-    trace: &mut [u8],
-) -> Progress
-    ensures { λ r. ⌜ Follows (now (image .entry)) (now (rows .entry)) progress new (now (trace .entry)) r (now (trace .exit)) decision ⌝ }
-{
-    match decision {
-        Decision::Goes { next, .. } => complete(progress, next, new, image, rows, trace),
-        Decision::Refused(error) => ended(progress.place, Ending::Refused(error)),
-    }
+    moved(place, next, new)
 }

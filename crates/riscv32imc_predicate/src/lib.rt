@@ -9,6 +9,7 @@ mod start;
 
 ghost use Rattle.riscv32imc_predicate.specs.Outcome.{Ran};
 use lane_word::LaneWord;
+use lane_word::Told;
 use predicate_action::Action;
 use predicate_action::Extension;
 use predicate_action::Reading;
@@ -20,6 +21,9 @@ use predicate_semantics::Rv32SymbolLayout;
 
 // The most events, as a count of them.
 const EVENT_LIMIT: u32 = MAX_EVENTS as u32;
+
+// The most steps of the run, as a count of them.
+const STEP_LIMIT: u32 = riscv32imc::MAX_RV32_STEPS as u32;
 
 // What a step changes: nothing; a register, with one value for all lanes, with the word that is computed or with loaded lanes; or bytes.
 enum Change {
@@ -62,13 +66,21 @@ struct Recorded {
     locations: [u32; MAX_EVENTS],
 }
 
-// How a run ends before its answer.
+// How a call of the loop ends: at stop, where it was to pause, or by a refusal.
 enum Ending {
     Arrived,
+    Paused,
     Refused(Rv32Error),
 }
 
-// The place, and the instruction fetched there; without one, how the run ends.
+// How far a call of the loop goes: the most steps of the run, the steps at which it pauses, and the trace entries.
+struct Bounds {
+    limit: u32,
+    pause: u32,
+    entries: usize,
+}
+
+// The instruction fetched at a place; without one, how the call ends.
 struct Progress {
     more: bool,
     ending: Ending,
@@ -76,7 +88,6 @@ struct Progress {
     word: u32,
     length: u32,
     reading: Reading,
-    place: Place,
 }
 
 // Register numbers are below this. After the registers' words come those of two operands that are one value, and what is set in x0.
@@ -90,16 +101,24 @@ const UNREAD: usize = REGISTERS + 2;
 
 const PLACES: usize = REGISTERS + 3;
 
-struct Registers {
-    words: [LaneWord; PLACES],
+// What is told of a register's word. A field that is an array holds structs, so the enum stands in one.
+struct Hint {
+    told: Told,
 }
 
-// Where the loop ends.
+// The registers, each told by one value or by the lanes of its word.
+struct Registers {
+    words: [LaneWord; PLACES],
+    hints: [Hint; PLACES],
+}
+
+// Where a call of the loop ends, with all that another call would go on from.
 struct Reached {
     place: Place,
     ending: Ending,
     recorded: Recorded,
-    x10: LaneWord,
+    words: [LaneWord; PLACES],
+    hints: [Hint; PLACES],
 }
 
 pub enum PredicateAnswer {
@@ -125,7 +144,15 @@ pub fn execute_invalid_channel_predicate(
     ensures { λ r. ⌜ Ran (now (image .entry)) symbols (now (rows .entry)) (now (trace .entry)) r (now (rows .exit)) (now (trace .exit)) ⌝ }
 {
     lane_memory::unmark(rows);
-    let outcome = outcome::run(image, symbols, rows, trace);
+    let outcome = outcome::run(
+        image,
+        symbols,
+        LaneWord::FIRST_INPUT,
+        LaneWord::input_domain(),
+        STEP_LIMIT,
+        rows,
+        trace,
+    );
     lane_memory::clear(rows);
     outcome
 }

@@ -1,4 +1,5 @@
 // The whole run over rows without a mark, and what it answers.
+use super::Bounds;
 use super::Ending;
 use super::Place;
 use super::PredicateAnswer;
@@ -8,9 +9,12 @@ use super::finish::Finished;
 use super::finish::finish;
 use super::run::advance;
 use super::start::start_place;
+use super::start::start_recorded;
+use super::start::start_registers;
 use super::start::start_test;
 use lane_access::Verdict;
 use lane_word::LaneWord;
+use lane_word::lanes_of;
 use predicate_answer::PredicateTransducerExecution;
 use predicate_answer::Rv32Error;
 use predicate_answer::no_events;
@@ -18,15 +22,20 @@ use predicate_answer::no_execution;
 use predicate_semantics::Rv32SymbolLayout;
 use predicate_semantics::STOP;
 use predicate_semantics::STOP_WORD;
+use predicate_trace::ENTRY_BYTES;
 ghost use mathlib.Core.Path.{_≡_};
 ghost use mathlib.Core.List.{[]};
 ghost use Rattle.predicate_answer.specs.Blank.{noExecution};
 ghost use Rattle.lane_memory.specs.Rows.{rowCount};
 ghost use Rattle.lane_memory.specs.Holds.{Holds};
-ghost use Rattle.riscv32imc_predicate.specs.Reporting.{refusedRun, Answered, Runs};
+ghost use Rattle.riscv32imc_predicate.specs.Setting.{Setting};
+ghost use Rattle.riscv32imc_predicate.specs.Reporting.{refusedRun, wholeRun, Answered, Calls, Runs};
 
 // The lanes, as a factor of lane operations.
 const LANE_COUNT: u32 = LaneWord::LANES as u32;
+
+// More steps than any run has, so that none pauses.
+const NEVER: u32 = 0xFFFF_FFFF;
 
 fn refused(error: Rv32Error, steps: u32) -> PredicateRun
     ensures { λ r. ⌜ r ≡ refusedRun error steps ⌝ }
@@ -39,8 +48,8 @@ fn refused(error: Rv32Error, steps: u32) -> PredicateRun
     }
 }
 
-fn answered(place: Place, recorded: Recorded, finished: Finished) -> PredicateRun
-    ensures { λ r. ⌜ Answered place recorded finished r ⌝ }
+fn answered(first_input: u8, place: Place, recorded: Recorded, finished: Finished) -> PredicateRun
+    ensures { λ r. ⌜ Answered «first_input» place recorded finished r ⌝ }
 {
     let verdict = finished.verdict;
     let events = finished.events;
@@ -50,7 +59,7 @@ fn answered(place: Place, recorded: Recorded, finished: Finished) -> PredicateRu
             answer: PredicateAnswer::Accepted,
             steps: place.steps,
             execution: PredicateTransducerExecution {
-                first_input: LaneWord::FIRST_INPUT,
+                first_input,
                 lane_count: LaneWord::LANES as u16,
                 return_value: finished.return_value,
                 symbolic_transitions: place.steps,
@@ -63,29 +72,63 @@ fn answered(place: Place, recorded: Recorded, finished: Finished) -> PredicateRu
     }
 }
 
+// A call of the loop that goes on to the run's end, with the whole entries of a trace.
+fn whole_run(limit: u32, trace: &[u8]) -> Bounds
+    ensures { λ r. ⌜ r ≡ wholeRun limit (now (trace .entry)) ⌝ }
+{
+    Bounds {
+        limit,
+        pause: NEVER,
+        entries: trace.len() / ENTRY_BYTES,
+    }
+}
+
+// The run of inputs from `first_input` on, which `domain` has in its lanes, in at most `limit` steps.
 pub fn run(
     image: &[u8],
     symbols: Rv32SymbolLayout,
+    first_input: u8,
+    domain: LaneWord,
+    limit: u32,
     rows: &mut [u8],
     trace: &mut [u8],
 ) -> PredicateRun
     requires { ⌜ Holds (now rows) (rowCount (now rows)) [] ⌝ }
-    ensures { λ r. ⌜ Runs (now (image .entry)) symbols (now (rows .entry)) (now (trace .entry)) r (now (rows .exit)) (now (trace .exit)) ⌝ }
+    ensures { λ r. ⌜ ((c : Setting) → Calls c (now (image .entry)) symbols «first_input» domain limit (now (rows .entry)) (now (trace .entry)) → Runs c r (now (rows .entry)) (now (rows .exit)) (now (trace .exit))) ⌝ }
 {
-    let started = start_test(image.len(), symbols, lane_memory::row_count(rows));
+    let started = start_test(
+        image.len(),
+        symbols,
+        Verdict::Passed,
+        lane_memory::row_count(rows),
+    );
     if let Verdict::Refused(error) = started {
         return refused(error, 0);
     }
     lane_memory::store_value(rows, STOP, 4, STOP_WORD);
-    let reached = advance(start_place(symbols.entry), image, symbols, rows, trace);
+    let bounds = whole_run(limit, trace);
+    let reached = advance(
+        start_place(symbols.entry),
+        start_registers(domain),
+        start_recorded(),
+        image,
+        symbols,
+        rows,
+        trace,
+        bounds,
+    );
     let ending = reached.ending;
     let place = reached.place;
     match ending {
         Ending::Refused(error) => refused(error, place.steps),
+        Ending::Paused => refused(Rv32Error::StepLimit, place.steps),
         Ending::Arrived => {
             let recorded = reached.recorded;
-            let finished = finish(recorded, reached.x10, image, symbols, rows);
-            answered(place, recorded, finished)
+            let hint = reached.hints[10];
+            let told = hint.told;
+            let x10 = lanes_of(told, reached.words[10]);
+            let finished = finish(recorded, x10, image, symbols, rows);
+            answered(first_input, place, recorded, finished)
         }
     }
 }

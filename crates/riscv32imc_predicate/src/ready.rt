@@ -1,4 +1,5 @@
 // What comes at a place: arrival, a refusal, or a fetched instruction.
+use super::Bounds;
 use super::Ending;
 use super::Place;
 use super::Progress;
@@ -8,8 +9,7 @@ use predicate_action::reading_of;
 use predicate_answer::Rv32Error;
 use predicate_semantics::STOP;
 ghost use mathlib.Core.Path.{_≡_};
-ghost use mathlib.Core.Bool.{false};
-ghost use Rattle.riscv32imc_predicate.specs.Tracking.{FetchesAs, Readied};
+ghost use Rattle.riscv32imc_predicate.specs.Coming.{FetchesAs, endedBy, Readied};
 
 // A fetched instruction, as its action: the operation's own fields stay below.
 enum Instruction {
@@ -21,8 +21,8 @@ enum Instruction {
     Refused(Rv32Error),
 }
 
-pub fn ended(place: Place, ending: Ending) -> Progress
-    ensures { λ r. ⌜ (r .more ≡ false) × (r .ending ≡ ending) × (r .place ≡ place) ⌝ }
+fn ended(ending: Ending) -> Progress
+    ensures { λ r. ⌜ r ≡ endedBy ending ⌝ }
 {
     Progress {
         more: false,
@@ -31,7 +31,6 @@ pub fn ended(place: Place, ending: Ending) -> Progress
         word: 0,
         length: 0,
         reading: reading_of(Action::Nothing),
-        place,
     }
 }
 
@@ -53,16 +52,19 @@ fn instruction_at(image: &[u8], rows: &[u8], pc: u32) -> Instruction
     }
 }
 
-// Arrival at stop, the bound, the fetch: what comes at a place.
-pub fn ready(place: Place, image: &[u8], rows: &[u8]) -> Progress
-    ensures { λ r. ⌜ Readied (now (image .entry)) (now (rows .entry)) place r ⌝ }
+// What comes at a place: arrival at stop, the pause, the limit, the fetch.
+pub fn ready(place: Place, image: &[u8], rows: &[u8], bounds: Bounds) -> Progress
+    ensures { λ r. ⌜ Readied (now (image .entry)) (now (rows .entry)) bounds place r ⌝ }
 {
     let pc = place.pc;
     if pc == STOP {
-        return ended(place, Ending::Arrived);
+        return ended(Ending::Arrived);
     }
-    if riscv32imc::MAX_RV32_STEPS <= (place.steps as u64) {
-        return ended(place, Ending::Refused(Rv32Error::StepLimit));
+    if place.steps == bounds.pause {
+        return ended(Ending::Paused);
+    }
+    if bounds.limit <= place.steps {
+        return ended(Ending::Refused(Rv32Error::StepLimit));
     }
     let instruction = instruction_at(image, rows, pc);
     match instruction {
@@ -77,8 +79,7 @@ pub fn ready(place: Place, image: &[u8], rows: &[u8]) -> Progress
             word,
             length,
             reading: reading_of(action),
-            place,
         },
-        Instruction::Refused(error) => ended(place, Ending::Refused(error)),
+        Instruction::Refused(error) => ended(Ending::Refused(error)),
     }
 }

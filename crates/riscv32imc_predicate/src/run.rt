@@ -1,29 +1,29 @@
 // The loop: steps up to the run's end, over registers that stay here.
+use super::Bounds;
 use super::Change;
+use super::Decision;
+use super::Ending;
 use super::FIRST_OPERAND;
+use super::Hint;
 use super::Place;
 use super::REGISTERS;
 use super::Reached;
+use super::Recorded;
+use super::Registers;
 use super::SECOND_OPERAND;
 use super::UNREAD;
-use super::decide::change_of;
 use super::decide::decide;
-use super::follow::follow;
+use super::follow::complete;
 use super::follow::located;
 use super::ready::ready;
-use super::start::start_recorded;
-use super::start::start_registers;
-use super::start::start_told;
 use lane_word::LaneWord;
 use lane_word::Told;
 use lane_word::Uniform;
-use lane_word::lanes_of;
 use lane_word::tell;
 use lane_word::told_by;
 use predicate_action::Extension;
 use predicate_action::Reading;
 use predicate_semantics::Rv32SymbolLayout;
-use predicate_trace::ENTRY_BYTES;
 use rv32_arithmetic::Binary;
 ghost use mathlib.Core.Path.{_≡_};
 ghost use lib.ListN.{length};
@@ -31,7 +31,8 @@ ghost use Rattle.rv32_arithmetic.specs.Value.{valueOf};
 ghost use Rattle.lane_word.specs.Word.{unary, binary, constant, lanes};
 ghost use Rattle.predicate_action.specs.Meaning.{extensionOf};
 ghost use Rattle.lane_memory.specs.Rows.{cleared};
-ghost use Rattle.riscv32imc_predicate.specs.Tracking.{called, Begins, Arrives};
+ghost use Rattle.riscv32imc_predicate.specs.Setting.{fixed};
+ghost use Rattle.riscv32imc_predicate.specs.Tracking.{machine, Advances};
 ghost use Rattle.riscv32imc_predicate.specs.Register.{slotOf, placeOf, operandTold, Stores, LoadsLanes};
 
 fn second_operand(reading: Reading, second: Told) -> Told
@@ -134,32 +135,45 @@ fn load_lanes(image: &[u8], rows: &[u8], address: u32, width: u32, extension: Ex
     extend(word, extension)
 }
 
-// Steps up to the run's end. The registers stay here, each told by one value or by its lanes; only single words cross calls.
+// Steps up to stop, the pause or a refusal. The registers stay here, each told by one value or by its lanes; only single words cross calls.
 pub fn advance(
     first: Place,
+    start: Registers,
+    kept: Recorded,
     image: &[u8],
     symbols: Rv32SymbolLayout,
     rows: &mut [u8],
     trace: &mut [u8],
+    bounds: Bounds,
 ) -> Reached
-    requires { ⌜ Begins (called (now image) symbols (now rows) (now trace)) (now rows) first ⌝ }
-    ensures { λ r. ⌜ Arrives (called (now (image .entry)) symbols (now (rows .entry)) (now (trace .entry))) r (now (rows .exit)) (now (trace .exit)) ⌝ }
+    ensures { λ r. ⌜ Advances (fixed (now (image .entry)) symbols bounds) (machine first start kept (now (rows .entry)) (now (trace .entry))) r (now (rows .exit)) (now (trace .exit)) ⌝ }
     ensures { λ r. ⌜ cleared (now (rows .exit)) ≡ cleared (now (rows .entry)) ⌝ }
 {
-    let mut registers = start_registers();
-    let mut told = start_told();
+    let mut words = start.words;
+    let mut hints = start.hints;
     let mut computed = LaneWord::unknown();
-    let mut recorded = start_recorded();
-    let mut progress = ready(first, image, rows);
-    while progress.more {
-        let event_count = symbols.event_count;
-        let pc = progress.place.pc;
+    let mut recorded = kept;
+    let mut place = first;
+    loop {
+        let progress = ready(place, image, rows, bounds);
+        if !progress.more {
+            let ending = progress.ending;
+            return Reached {
+                place,
+                ending,
+                recorded,
+                words,
+                hints,
+            };
+        }
         let reading = progress.reading;
         let function = reading.function;
         let rs1 = reading.rs1 as usize;
         let rs2 = reading.rs2 as usize;
-        let left = told[rs1];
-        let second = told[rs2];
+        let one = hints[rs1];
+        let other = hints[rs2];
+        let left = one.told;
+        let second = other.told;
         let right = second_operand(reading, second);
         let known = told_by(function, left, right);
         let mut tested = Uniform::Unknown;
@@ -167,63 +181,65 @@ pub fn advance(
             Told::Value(value) => tested = Uniform::Value(value),
             Told::Lanes => {
                 match left {
-                    Told::Value(value) => registers.words[FIRST_OPERAND] = LaneWord::constant(
-                        value,
-                    ),
+                    Told::Value(value) => words[FIRST_OPERAND] = LaneWord::constant(value),
                     Told::Lanes => {}
                 }
                 match right {
-                    Told::Value(value) => registers.words[SECOND_OPERAND] = LaneWord::constant(
-                        value,
-                    ),
+                    Told::Value(value) => words[SECOND_OPERAND] = LaneWord::constant(value),
                     Told::Lanes => {}
                 }
                 let a = place_of(left, rs1, FIRST_OPERAND);
                 let b = place_of(right, rs2, SECOND_OPERAND);
-                computed = operate(function, registers.words[a], registers.words[b]);
+                computed = operate(function, words[a], words[b]);
                 tested = tell(computed.known, &computed.values);
             }
         }
-        let decision = decide(progress, tested, image, rows, trace.len() / ENTRY_BYTES);
-        let change = change_of(decision);
-        let mut new: u32 = 0;
-        match change {
-            Change::Nothing => {}
-            Change::Sets { rd, value } => {
-                let slot = slot_of(rd);
-                told[slot] = Told::Value(value);
+        let decision = decide(progress, place, tested, image, rows, bounds.entries);
+        match decision {
+            Decision::Refused(error) => {
+                return Reached {
+                    place,
+                    ending: Ending::Refused(error),
+                    recorded,
+                    words,
+                    hints,
+                };
             }
-            Change::Computes { rd } => {
-                let slot = slot_of(rd);
-                told[slot] = Told::Lanes;
-                registers.words[slot] = computed;
-            }
-            Change::Loads {
-                rd,
-                address,
-                width,
-                extension,
-            } => {
-                let slot = slot_of(rd);
-                told[slot] = Told::Lanes;
-                registers.words[slot] = load_lanes(image, rows, address, width, extension);
-            }
-            Change::Stores { address, width } => {
-                recorded = located(recorded, pc, address, width, event_count);
-                match second {
-                    Told::Value(value) => new = store_told(rows, address, width, value),
-                    Told::Lanes => new = store_lanes(rows, address, width, registers.words[rs2]),
+            Decision::Goes { change, next } => {
+                let mut new: u32 = 0;
+                match change {
+                    Change::Nothing => {}
+                    Change::Sets { rd, value } => {
+                        let slot = slot_of(rd);
+                        hints[slot] = Hint {
+                            told: Told::Value(value),
+                        };
+                    }
+                    Change::Computes { rd } => {
+                        let slot = slot_of(rd);
+                        hints[slot] = Hint { told: Told::Lanes };
+                        words[slot] = computed;
+                    }
+                    Change::Loads {
+                        rd,
+                        address,
+                        width,
+                        extension,
+                    } => {
+                        let slot = slot_of(rd);
+                        hints[slot] = Hint { told: Told::Lanes };
+                        words[slot] = load_lanes(image, rows, address, width, extension);
+                    }
+                    Change::Stores { address, width } => {
+                        recorded = located(recorded, place.pc, address, width, symbols.event_count);
+                        match second {
+                            Told::Value(value) => new = store_told(rows, address, width, value),
+                            Told::Lanes => new = store_lanes(rows, address, width, words[rs2]),
+                        }
+                    }
                 }
+                place = complete(place, progress.word, progress.length, next, new, trace);
             }
         }
-        progress = follow(progress, decision, new, image, rows, trace);
-    }
-    let place = progress.place;
-    let ending = progress.ending;
-    Reached {
-        place,
-        ending,
-        recorded,
-        x10: lanes_of(told[10], registers.words[10]),
     }
 }

@@ -1,4 +1,5 @@
 // Before any step: the tests, the place, the locations and the registers.
+use super::Hint;
 use super::PLACES;
 use super::Place;
 use super::Recorded;
@@ -16,7 +17,7 @@ ghost use Rattle.predicate_semantics.specs.Program.{inMemory, symbolsPlaced};
 ghost use Rattle.predicate_semantics.specs.Lane.{startTests};
 ghost use Rattle.lane_access.specs.Answers.{verdictOf};
 ghost use Rattle.riscv32imc_predicate.specs.Tracking.{startPlace, startRecorded};
-ghost use Rattle.riscv32imc_predicate.specs.Register.{startTold, StartWords};
+ghost use Rattle.riscv32imc_predicate.specs.Register.{StartsWith};
 
 fn in_memory(address: u32) -> bool
     ensures { λ r. ⌜ r ≡ inMemory address ⌝ }
@@ -36,9 +37,9 @@ fn symbols_placed(symbols: Rv32SymbolLayout) -> bool
     in_memory(symbols.events)
 }
 
-// 1, 2, and 13 where under four rows are lent.
-pub fn start_test(size: usize, symbols: Rv32SymbolLayout, rows: usize) -> Verdict
-    ensures { λ r. ⌜ verdictOf r ≡ startTests size symbols rows ⌝ }
+// 1, 2, the caller's choice, and 13 where under four rows are lent.
+pub fn start_test(size: usize, symbols: Rv32SymbolLayout, choice: Verdict, rows: usize) -> Verdict
+    ensures { λ r. ⌜ verdictOf r ≡ startTests size symbols (verdictOf choice) rows ⌝ }
 {
     if size == 0 {
         return Verdict::Refused(Rv32Error::ImageSize);
@@ -48,6 +49,9 @@ pub fn start_test(size: usize, symbols: Rv32SymbolLayout, rows: usize) -> Verdic
     }
     if !symbols_placed(symbols) {
         return Verdict::Refused(Rv32Error::SymbolOutside);
+    }
+    if let Verdict::Refused(error) = choice {
+        return Verdict::Refused(error);
     }
     if rows < 4 {
         return Verdict::Refused(Rv32Error::NoRow);
@@ -74,21 +78,21 @@ pub fn start_recorded() -> Recorded
     }
 }
 
-pub fn start_registers() -> Registers
-    ensures { λ r. ⌜ StartWords (r .words) ⌝ }
+// x0, x1 and x2 are told by their values, x10 is the input.
+pub fn start_registers(x10: LaneWord) -> Registers
+    ensures { λ r. ⌜ StartsWith x10 r ⌝ }
 {
     let mut words = [LaneWord::unknown(); PLACES];
-    words[10] = LaneWord::input_domain();
-    Registers { words }
-}
-
-// x0, x1 and x2 are told by their values.
-pub fn start_told() -> [Told; PLACES]
-    ensures { λ r. ⌜ r ≡ startTold ⌝ }
-{
-    let mut told = [Told::Lanes; PLACES];
-    told[0] = Told::Value(0);
-    told[1] = Told::Value(STOP);
-    told[2] = Told::Value(STACK_POINTER);
-    told
+    words[10] = x10;
+    let mut hints = [Hint { told: Told::Lanes }; PLACES];
+    hints[0] = Hint {
+        told: Told::Value(0),
+    };
+    hints[1] = Hint {
+        told: Told::Value(STOP),
+    };
+    hints[2] = Hint {
+        told: Told::Value(STACK_POINTER),
+    };
+    Registers { words, hints }
 }

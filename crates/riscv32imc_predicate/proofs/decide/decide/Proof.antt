@@ -17,12 +17,12 @@ decide-spec =
     (λ c κs. search needs)
     (λ c κs. search needs)
     (λ c. (
-      λ p l s g left right o.
+      λ d s g left right o.
           let x = c .before in
           let n = x .before in
-          let a = n .before .before .before .before .args in
+          let a = n .before .before .before .args in
           c .last-test .ensures .0 _ _ _
-          ∙ ap (λ (t : Tested (Effect LaneWord)). lastTested t (a .progress .place .steps) (a .entries))
-          (x .execute .ensures .0 p l s g left right o ∙ ap (λ (k : ℕ). execute p l s k (a .progress .action)) (n .rv32-add .ensures)),
+          ∙ ap (λ (t : Tested (Effect LaneWord)). lastTested t (a .place .steps) (a .entries))
+          (x .execute .ensures .0 d s g left right o ∙ ap (λ (k : ℕ). execute (d .program) (d .setup) s k (a .progress .action)) (n .rv32-add .ensures)),
       c .last-test .ensures .1 _ (c .before .execute .ensures .1),
     )))

@@ -18,23 +18,23 @@ finish-spec =
     (λ c κs. search needs)
     (λ c. search needs)
     (λ c κs. search needs)
-    (λ c p l s g x.
+    (λ c d s g x.
     let v = c .before .before in
     let u = v .before .before in
     rw (return-refused g x _
     (sym (u .agree .ensures) ∙ ap agreedOf (v .returned .given .1))) (c .unfinished .ensures s))
-    (λ c p l s g x.
-    let d = c .before .before in
-    let r = d .before .before in
+    (λ c d s g x.
+    let q = c .before .before in
+    let r = q .before .before in
     let v = r .before .before in
     let u = v .before .before in
     rw (count-refused g x _
-    (sym (u .agree .ensures) ∙ ap agreedOf (v .returned2 .given .1)) _ (sym (r .access-agreed .ensures) ∙ ap agreedOf (d .counted .given .1))) (c .unfinished2 .ensures s))
-    (λ c p l s g x.
-    let d = c .before .before in
-    let r = d .before .before in
+    (sym (u .agree .ensures) ∙ ap agreedOf (v .returned2 .given .1)) _ (sym (r .access-agreed .ensures) ∙ ap agreedOf (q .counted .given .1))) (c .unfinished2 .ensures s))
+    (λ c d s g x.
+    let q = c .before .before in
+    let r = q .before .before in
     let v = r .before .before in
     let u = v .before .before in
     rw (both-known g x _
-    (sym (u .agree .ensures) ∙ ap agreedOf (v .returned2 .given .1)) _ (sym (r .access-agreed .ensures) ∙ ap agreedOf (d .counted2 .given .1)))
-    (c .finish-events .ensures p l s g)))
+    (sym (u .agree .ensures) ∙ ap agreedOf (v .returned2 .given .1)) _ (sym (r .access-agreed .ensures) ∙ ap agreedOf (q .counted2 .given .1)))
+    (c .finish-events .ensures d s g)))

@@ -8,11 +8,11 @@ finish-events-spec =
     tie.close
     (tie.spec
     (λ c κs. search needs)
-    (λ c p l s g.
+    (λ c d s g.
     let x = c .before .before .before .before .args in
     rw (many-events g (x .return-value) (x .count) (c .before .if1 .taken)) (c .unfinished .ensures s))
     (λ c κs. search needs)
-    (λ c p l s g.
+    (λ c d s g.
     let t = c .before in
     let e = t .before .before in
     let x = e .before .before .before .args in
@@ -21,7 +21,7 @@ finish-events-spec =
     (λ c. search needs)
     (λ c κs. search needs)
     (λ c. search needs)
-    (λ c p l s g.
+    (λ c d s g.
     let v = c .before .before in
     let r = v .before .before .before in
     let t = r .before .before in
@@ -30,7 +30,7 @@ finish-events-spec =
     let f = rw (v .verdict .given .1) at (r .read-events .ensures) in
     rw (events-refused g (x .return-value) (x .count) (e .if1 .left) (t .if2 .left) _ (f .0))
     (c .unfinished3 .ensures s))
-    (λ c p l s g.
+    (λ c d s g.
     let r = c .before .before .before in
     let t = r .before .before in
     let e = t .before .before in

@@ -3,7 +3,6 @@ use borrow.Author.Needs.{needs}
 use Rattle.lane_access.specs.declared.Verdict.{Verdict}
 use Rattle.predicate_semantics.specs.Lane.{finish}
 use Rattle.riscv32imc_predicate.specs.Finishing.{Answers}
-use Rattle.riscv32imc_predicate.specs.Tracking.{program, space}
 use Rattle.riscv32imc_predicate.proofs.Running.{reports-refused, reports-accepted}
 use Rattle.riscv32imc_predicate.proofs.outcome.answered.Statement.{statement}
 use Rattle.riscv32imc_predicate.proofs.outcome.answered.Tie as tie
@@ -18,15 +17,15 @@ answered-spec =
     (λ c. search needs)
     (λ c κs. search needs)
     (λ c. search needs)
-    (λ c d s at h.
+    (λ c d s b at h.
     let g = c .before .before in
     let a = g .before .before .before .args in
     let f = a .finished in
-    let q = subst (λ (v : Verdict). Answers v (f .«return_value») (f .events) s (finish (program d) (space d) s)) (g .verdict .given .1) h in
+    let q = subst (λ (v : Verdict). Answers v (f .«return_value») (f .events) s (finish (d .program) (d .setup) s)) (g .verdict .given .1) h in
     reports-refused d s _ (g .verdict .given .0 .0) (a .place .steps) (at .same-steps) (q .0) (c .refused .ensures))
-    (λ c d s at h.
+    (λ c d s b at h.
     let g = c .before .before in
     let a = g .before .before .before .args in
     let f = a .finished in
-    let q = subst (λ (v : Verdict). Answers v (f .«return_value») (f .events) s (finish (program d) (space d) s)) (g .enum-told .given .1) h in
-    rw (c .before .rv32-mul .ensures) (reports-accepted d s at (f .«return_value») (q .0) (f .events) (q .2) (q .1))))
+    let q = subst (λ (v : Verdict). Answers v (f .«return_value») (f .events) s (finish (d .program) (d .setup) s)) (g .enum-told .given .1) h in
+    rw (c .before .rv32-mul .ensures) (reports-accepted d s b at (f .«return_value») (q .0) (f .events) (q .2) (q .1))))

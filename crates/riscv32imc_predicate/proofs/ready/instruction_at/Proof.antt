@@ -15,5 +15,5 @@ instruction-at-spec =
     (λ c.
     let g = c .before .before in
     let f = g .before .before in
-    (g .fetching .given .0 .0, λ steps. sym (ap fetchingOf (g .fetching .given .1)) ∙ f .fetch .ensures steps, c .action-of .ensures, refl, refl))
-    (λ c. let g = c .before in λ steps. sym (ap fetchingOf (g .fetching2 .given .1)) ∙ g .before .before .fetch .ensures steps))
+    (g .fetching .given .0 .0, λ core steps h. sym (ap fetchingOf (g .fetching .given .1)) ∙ f .fetch .ensures core steps h, c .action-of .ensures, refl, refl))
+    (λ c. let g = c .before in λ core steps h. sym (ap fetchingOf (g .fetching2 .given .1)) ∙ g .before .before .fetch .ensures core steps h))

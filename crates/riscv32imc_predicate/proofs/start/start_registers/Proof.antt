@@ -1,5 +1,7 @@
-use mathlib.Core.Path.{_≡_, ap, _∙_}
+use mathlib.Core.Path.{_≡_}
+use lib.ListN.{length}
 use borrow.Author.Needs.{needs}
+use Rattle.lane_word.specs.Word.{lanes}
 use Rattle.riscv32imc_predicate.proofs.Filing.{start-held}
 use Rattle.riscv32imc_predicate.proofs.start.start_registers.Statement.{statement}
 use Rattle.riscv32imc_predicate.proofs.start.start_registers.Tie as tie
@@ -9,6 +11,11 @@ start-registers-spec =
     tie.close
     (tie.spec
     (λ c κs. search needs)
-    (λ c κs. search needs)
     (λ c. search needs)
-    (λ c. rw (c .input-domain .ensures, c .before .unknown .ensures) start-held))
+    (λ c. search needs)
+    (λ c. search needs)
+    (λ c. search needs)
+    (λ c n h.
+    let x = c .before .args .x10 in
+    let z : length (x .values) ≡ lanes = search needs in
+    rw (c .unknown .ensures) (start-held x z n h)))

@@ -17,7 +17,20 @@ start-test-spec =
     (λ c. rw (positive _ (c .before .if1 .left), lt-leb _ _ (c .if2 .taken)))
     (λ c κs. search needs)
     (λ c. let e = c .before .before in rw (positive _ (e .before .if1 .left), le-leb _ _ (e .if2 .left), sym (c .before .symbols-placed .ensures) ∙ off _ (c .if3 .taken)))
-    (λ c. let d = c .before in let e = d .before .before in
-    rw (positive _ (e .before .if1 .left), le-leb _ _ (e .if2 .left), sym (d .before .symbols-placed .ensures) ∙ off-off _ (d .if3 .left), lt-leb _ _ (c .if4 .taken)))
-    (λ c. let d = c .before in let e = d .before .before in
-    rw (positive _ (e .before .if1 .left), le-leb _ _ (e .if2 .left), sym (d .before .symbols-placed .ensures) ∙ off-off _ (d .if3 .left), le-leb _ _ (c .if4 .left))))
+    (λ c. search needs)
+    (λ c.
+    let k = c .before in
+    let d = k .before .before in
+    let e = d .before .before in
+    rw (positive _ (e .before .if1 .left), le-leb _ _ (e .if2 .left), sym (d .before .symbols-placed .ensures) ∙ off-off _ (d .if3 .left), k .choice .given .1))
+    (λ c. search needs)
+    (λ c.
+    let k = c .before in
+    let d = k .before .before in
+    let e = d .before .before in
+    rw (positive _ (e .before .if1 .left), le-leb _ _ (e .if2 .left), sym (d .before .symbols-placed .ensures) ∙ off-off _ (d .if3 .left), k .enum-told .given .1, lt-leb _ _ (c .if4 .taken)))
+    (λ c.
+    let k = c .before in
+    let d = k .before .before in
+    let e = d .before .before in
+    rw (positive _ (e .before .if1 .left), le-leb _ _ (e .if2 .left), sym (d .before .symbols-placed .ensures) ∙ off-off _ (d .if3 .left), k .enum-told .given .1, le-leb _ _ (c .if4 .left))))
