@@ -25,7 +25,7 @@ use Rattle.predicate_semantics.specs.Choice.{choose}
 use Rattle.predicate_semantics.specs.Program.{Core, memoryEnd, initial}
 use Rattle.predicate_semantics.specs.Memory.{LaneBytes, read}
 use Rattle.predicate_semantics.specs.Tested.{Tested, passed, refused, refuse, require, _>>=_}
-use Rattle.predicate_answer.specs.Refusal.{Refusal}
+use Rattle.predicate_answer.specs.Refusal.{Refusal, refusalOf}
 use Rattle.predicate_semantics.specs.Lane.{inside, agreedAs, agreed, access, accessAgreed, decodeWord, expandHalfword, fetchFour, fetch}
 use Rattle.lane_memory.specs.Rows.{loadByte, toldByte}
 use Rattle.lane_memory.proofs.Laws.{load-below, told-byte}
@@ -35,7 +35,6 @@ use Rattle.lane_access.specs.declared.Accessed.{Accessed}
 use Rattle.lane_access.specs.declared.Loading.{Loading}
 use Rattle.lane_access.specs.declared.Loading.the-variants as loading
 use Rattle.lane_access.specs.Answers.{accessedOf, accessedAs, loadingOf, toldLoad}
-use Rattle.predicate_answer.specs.Refusal.{refusalOf}
 
 -- what the lanes agree on is the uniform test's answer
 pub agreed-is : (role : ℕ) (w : LaneWord) → agreed role w ≡ agreedAs role (uniformOf w)

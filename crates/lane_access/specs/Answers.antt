@@ -8,7 +8,6 @@ use Rattle.lane_word.specs.declared.Told.{Told}
 use Rattle.lane_word.specs.declared.Told.the-variants as told
 use Rattle.lane_word.specs.Word.{unknown, lanes}
 use Rattle.predicate_semantics.specs.Tested.{Tested, passed, refused, _>>=_}
-use Rattle.predicate_answer.specs.Refusal.{Refusal}
 use Rattle.predicate_semantics.specs.Lane.{inside}
 use Rattle.lane_access.specs.Seen.{toldSeen, toldRead}
 use Rattle.lane_access.specs.declared.Verdict.{Verdict}

@@ -1,5 +1,5 @@
 -- An outcome's words read back as that outcome, and what was read is written again byte for byte. Assumes nothing.
-use mathlib.Core.Path.{_≡_, refl, sym, ap, _∙_, subst}
+use mathlib.Core.Path.{_≡_, refl, ap, _∙_}
 use mathlib.Core.Bool.{Bool, true, false, cond, and-false}
 use mathlib.Core.Option.{Option, none, some}
 use mathlib.Core.List.{List, [], _∷_, _++_}
@@ -14,8 +14,7 @@ use Rattle.little_endian.specs.Lent.{over}
 use Rattle.predicate_answer.specs.declared.CompiledMmioEvent.{CompiledMmioEvent}
 use Rattle.predicate_trace.specs.declared.PredicateControlStep.{PredicateControlStep}
 use Rattle.predicate_answer.specs.declared.PredicateTransducerExecution.{PredicateTransducerExecution}
-use Rattle.predicate_answer.specs.Blank.{maxEvents}
-use Rattle.predicate_answer.specs.Blank.{noExecution, noEvents}
+use Rattle.predicate_answer.specs.Blank.{maxEvents, noExecution, noEvents}
 use Rattle.predicate_trace.specs.Trace.{entryBytes}
 use Rattle.lane_record.specs.declared.RecordAnswer.{RecordAnswer}
 use Rattle.lane_record.specs.declared.RecordAnswer.the-variants as recorded
@@ -24,11 +23,11 @@ use Rattle.lane_record.specs.Format.{heading, widths, Record, accepted, refused
 use Rattle.lane_record.specs.Rules.{executionValid, valid}
 use Rattle.lane_record.specs.Decode.{decodeRecord}
 use Rattle.lane_record.specs.Answers.{Said, done, wrote, refuses, writeSaid, noOutcome, acceptedOutcome, readAnswer, readOutcome, readTrace, given, writeAnswer, writeOutput}
-use Rattle.lane_record.proofs.TestLaws.{both, yes}
+use Rattle.lane_record.proofs.TestLaws.{yes}
 use Rattle.lane_record.proofs.DecodeLaws.{rules, decode-same}
 use Rattle.lane_record.proofs.Theorems.{rewritten}
 use Rattle.lane_library.specs.Outcome.{count}
-use Rattle.lane_exports.specs.Boundary.{headingAt, answerWords, eventWords, outcomeWords, code, wordsAfter, fit, formed, eventsFrom, outcomeFrom, FitsAnswer, FitsTypes, ReadsWords, WritesWords, BreaksRules, WordsBack, Rewrites}
+use Rattle.lane_exports.specs.Boundary.{headingAt, answerWords, eventWords, code, wordsAfter, fit, formed, eventsFrom, outcomeFrom, FitsAnswer, FitsTypes, ReadsWords, WritesWords, BreaksRules, WordsBack, Rewrites}
 
 -- ---- words that stand for no outcome
 none-by : (b : Bool) (o : RecordOutcome) (t : List ℕ) → b ≡ false → given (cond b o noOutcome) t ≡ none

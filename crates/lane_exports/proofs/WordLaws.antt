@@ -14,8 +14,7 @@ use lib.Seq.{sets, drop-cons, drop-drop, getD-drop}
 use Rattle.little_endian.proofs.SetLaws.{sets-append, sets-step, sets-over}
 use Rattle.predicate_answer.specs.declared.CompiledMmioEvent.{CompiledMmioEvent}
 use Rattle.predicate_answer.specs.declared.PredicateTransducerExecution.{PredicateTransducerExecution}
-use Rattle.predicate_answer.specs.Blank.{maxEvents}
-use Rattle.predicate_answer.specs.Blank.{noEvent}
+use Rattle.predicate_answer.specs.Blank.{maxEvents, noEvent}
 use Rattle.lane_record.specs.declared.RecordAnswer.{RecordAnswer}
 use Rattle.lane_record.specs.declared.RecordAnswer.the-variants as recorded
 use Rattle.lane_record.specs.declared.RecordRefusal.{RecordRefusal}

@@ -1,31 +1,26 @@
 -- A run's outcome as the writer is given it, and the record that it is. Assumes nothing.
 use mathlib.Core.Path.{_≡_, refl, sym, ap, _∙_, subst}
-use mathlib.Core.Bool.{Bool, true, false, _&&_}
+use mathlib.Core.Bool.{Bool, true, false}
 use mathlib.Core.Option.{Option, some}
-use mathlib.Core.List.{List, []}
+use mathlib.Core.List.{List}
 use Prim.Native.Nat.{ℕ, _+_, _≤_, _-_}
 use native.Mathlib.Omega.{arith}
 use borrow.Author.Tests.{ltb-true}
 use lib.Dec.{leb}
 use lib.ListN.{length, take, drop, length-drop}
 use lib.Seq.{take-length}
-use Rattle.little_endian.specs.Lent.{over}
-use Rattle.predicate_answer.specs.declared.CompiledMmioEvent.{CompiledMmioEvent}
-use Rattle.predicate_answer.specs.declared.PredicateTransducerExecution.{PredicateTransducerExecution}
 use Rattle.predicate_semantics.specs.declared.Rv32SymbolLayout.{Rv32SymbolLayout}
 use Rattle.predicate_semantics.specs.State.{Result}
 use Rattle.predicate_semantics.specs.Tested.{Tested, passed}
-use Rattle.predicate_answer.specs.Refusal.{Refusal}
+use Rattle.predicate_answer.specs.Refusal.{Refusal, refusalOf}
 use Rattle.predicate_semantics.specs.Tested as Tested
-use Rattle.predicate_semantics.specs.Lane.{LaneState, Ended}
+use Rattle.predicate_semantics.specs.Lane.{Ended}
 use Rattle.lane_memory.specs.Rows.{rowCount, cleared}
-use Rattle.predicate_answer.specs.Refusal.{refusalOf}
 use Rattle.lane_record.specs.declared.RecordOutcome.{RecordOutcome}
-use Rattle.lane_record.specs.declared.RecordAnswer.the-variants as recorded
 use Rattle.lane_record.specs.declared.WriteAnswer.{WriteAnswer}
 use Rattle.lane_record.specs.Format.{Record, refused}
 use Rattle.lane_record.specs.Answers.{refusedOutcome, given, Writes}
-use Rattle.lane_record.specs.Runs.{refusalIn, recordIn, outcomeIn}
+use Rattle.lane_record.specs.Runs.{refusalIn, outcomeIn}
 use Rattle.lane_record.proofs.TestLaws.{both}
 use Rattle.lane_record.proofs.Runs.{keeps-rules}
 use Rattle.riscv32imc_predicate.specs.declared.PredicateAnswer.{PredicateAnswer}

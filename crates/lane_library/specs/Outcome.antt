@@ -3,7 +3,7 @@ use mathlib.Core.Path.{_≡_}
 use mathlib.Core.Bool.{Bool, true, false}
 use mathlib.Core.Option.{some}
 use mathlib.Core.List.{List}
-use Prim.Native.Nat.{ℕ, _+_, _*_, _≤_, _<_}
+use Prim.Native.Nat.{ℕ, _+_, _*_, _≤_}
 use lib.ListN.{length, take}
 use Rattle.little_endian.specs.Lent.{over}
 use Rattle.lane_word.specs.Word.{firstInput}
@@ -11,7 +11,7 @@ use Rattle.predicate_semantics.specs.declared.Rv32SymbolLayout.{Rv32SymbolLayou
 use Rattle.predicate_semantics.specs.State.{Result}
 use Rattle.predicate_semantics.specs.Standing.{lastInput, standingLaneRun, standingScalarRun}
 use Rattle.predicate_answer.specs.Blank.{noEvents}
-use Rattle.predicate_trace.specs.Trace.{traceBytes, stepsAt}
+use Rattle.predicate_trace.specs.Trace.{traceBytes, stepsAt, entryCount}
 use Rattle.lane_memory.specs.LentRows.{rowCount, cleared}
 use Rattle.predicate_answer.specs.Refusal.{refusalOf}
 use Rattle.lane_record.specs.declared.RecordRefusal.{RecordRefusal}
@@ -27,7 +27,6 @@ use Rattle.lane_record.specs.Runs.{recordIn}
 use Rattle.riscv32imc_predicate.specs.declared.PredicateAnswer.{PredicateAnswer}
 use Rattle.riscv32imc_predicate.specs.declared.PredicateAnswer.the-variants as answer
 use Rattle.riscv32imc_predicate.specs.declared.PredicateRun.{PredicateRun}
-use Rattle.predicate_trace.specs.Trace.{entryCount}
 use Rattle.riscv32imc_predicate.specs.Outcome.{runOver}
 use Rattle.lane_library.specs.Inputs.{symbolsIn, imageIn, taken}
 

@@ -1,23 +1,21 @@
 -- With the program's rows, entries and output every input's record is written, never 16. Assumes nothing.
-use mathlib.Core.Path.{_≡_, refl, sym, ap, _∙_, subst}
+use mathlib.Core.Path.{_≡_, sym, ap, _∙_, subst}
 use mathlib.Core.Bool.{Bool, true, false, cond}
 use mathlib.Core.List.{List}
 use mathlib.Core.Option.{some}
 use Prim.Native.Nat.{ℕ, _/_, _≤_}
 use native.Mathlib.Omega.{arith}
 use borrow.Author.Tests.{le-leb}
-use lib.Dec.{leb}
 use lib.ListN.{length}
 use Rattle.little_endian.specs.Lent.{over}
 use Rattle.predicate_semantics.specs.declared.Rv32SymbolLayout.{Rv32SymbolLayout}
-use Rattle.predicate_trace.specs.Trace.{entryBytes}
+use Rattle.predicate_trace.specs.Trace.{entryBytes, entryCount}
 use Rattle.lane_memory.specs.Rows.{rowBytes, rowCount}
 use Rattle.lane_record.specs.declared.WriteAnswer.{WriteAnswer}
 use Rattle.lane_record.specs.declared.WriteAnswer.the-variants.{Written}
 use Rattle.lane_record.specs.Format.{Record, encode}
 use Rattle.lane_record.specs.Answers.{Said, wrote, refuses, writeSaid}
 use Rattle.lane_record.specs.Answers as Answers
-use Rattle.predicate_trace.specs.Trace.{entryCount}
 use Rattle.lane_library.specs.Inputs.{programRows, programEntries, symbolsIn, imageIn, taken}
 use Rattle.lane_library.specs.Outcome.{count, inputRecord, recordBytes, Promise, LentMemory, LaneRuns}
 use Rattle.lane_library.proofs.Promise.{size-fits}

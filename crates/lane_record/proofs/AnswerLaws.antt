@@ -15,9 +15,8 @@ use Rattle.little_endian.proofs.SetLaws.{sets-append, sets-over}
 use Rattle.predicate_trace.specs.declared.PredicateControlStep.{PredicateControlStep}
 use Rattle.predicate_answer.specs.declared.CompiledMmioEvent.{CompiledMmioEvent}
 use Rattle.predicate_answer.specs.declared.PredicateTransducerExecution.{PredicateTransducerExecution}
-use Rattle.predicate_answer.specs.Blank.{noEvents}
+use Rattle.predicate_answer.specs.Blank.{noEvents, maxEvents}
 use Rattle.predicate_semantics.specs.Program.{stop}
-use Rattle.predicate_answer.specs.Blank.{maxEvents}
 use Rattle.predicate_trace.specs.Trace.{entryBytes, stepValues, traceBytes, stepsAt}
 use Rattle.predicate_trace.proofs.TraceLaws.{length-trace}
 use Rattle.lane_record.specs.declared.RecordRefusal.{RecordRefusal}
@@ -30,7 +29,7 @@ use Rattle.lane_record.specs.Rules.{executionValid, linked, refusalValid
 use Rattle.lane_record.specs.Decode.{executionAt, eventsAt, refusalAt, stepsFrom, acceptedAt, itemsAre, acceptedForm, ruled, refusedIn, acceptedIn, decodeRecord}
 use Rattle.lane_record.specs.Answers.{Said, wrote, refuses, refusedReading, nothingRead, Reads, Exact, acceptedGiven, givenAccepted, Writes}
 use Rattle.lane_record.proofs.TestLaws.{both, always}
-use Rattle.lane_record.proofs.DecodeLaws.{length-eventsAt, length-stepsAt, decode-encode, rules, Formed, form, Same, decode-same, decode-only}
+use Rattle.lane_record.proofs.DecodeLaws.{length-eventsAt, length-stepsAt, decode-encode, rules, form, decode-same, decode-only}
 
 few-cases : (e : PredicateTransducerExecution) (w : Bool) → leb (e .«event_count») maxEvents ≡ w → executionValid e ≡ true → e .«event_count» ≤ maxEvents
 few-cases e true p v = leb-true _ _ p

@@ -1,7 +1,7 @@
 -- A record's bytes read back as the record; bytes that read as a record are its bytes, and its rules hold. Assumes nothing.
 use mathlib.Core.Path.{_≡_, refl, ap, sym, _∙_, subst}
 use mathlib.Core.Bool.{Bool, true, false, cond, _&&_}
-use mathlib.Core.Option.{Option, none, some}
+use mathlib.Core.Option.{none, some}
 use mathlib.Core.List.{List, [], _∷_, _++_, map, append-assoc, append-nil}
 use Prim.Native.Nat.{ℕ, zero, suc, _+_, _*_, _≤_, _<_}
 use native.Mathlib.Numerals.{one-add}
@@ -12,7 +12,7 @@ use lib.ListN.{length, getD, take, drop, length-append, length-drop, length-map}
 use lib.Seq.{drop-at, take-add, drop-drop, take-all}
 use borrow.Author.Tests.{eq-eqb, eqb-true}
 use Rattle.little_endian.specs.Number.{AllBytes}
-use Rattle.little_endian.specs.Pack.{unpack, unpacks, Fits, AllFit}
+use Rattle.little_endian.specs.Pack.{unpack, unpacks, AllFit}
 use Rattle.little_endian.proofs.NumberLaws.{below-drop}
 use Rattle.little_endian.proofs.PackLaws.{Led, unpack-pack, pack-unpack, unpack-fits, length-packs, past-row, unpacks-packs, packs-unpacks, unpacks-fit, length-unpacks}
 use Rattle.predicate_trace.specs.declared.PredicateControlStep.{PredicateControlStep}

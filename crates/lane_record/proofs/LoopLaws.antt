@@ -15,9 +15,8 @@ use Rattle.little_endian.specs.Pack.{pack, unpack, packs, Fits, AllFit}
 use Rattle.little_endian.proofs.SetLaws.{sets-step}
 use Rattle.predicate_trace.specs.declared.PredicateControlStep.{PredicateControlStep}
 use Rattle.predicate_answer.specs.declared.CompiledMmioEvent.{CompiledMmioEvent}
-use Rattle.predicate_answer.specs.Blank.{noEvent}
+use Rattle.predicate_answer.specs.Blank.{noEvent, maxEvents}
 use Rattle.predicate_semantics.specs.Program.{stop}
-use Rattle.predicate_answer.specs.Blank.{maxEvents}
 use Rattle.predicate_trace.specs.Trace.{entryBytes, stepWidths, stepValues, stepOf, stepsAt}
 use Rattle.lane_record.specs.Format.{heading, event, widths, size, item, items, eventValues, eventFrom}
 use Rattle.lane_record.specs.Rules.{link, begins, linked}

@@ -1,12 +1,12 @@
 -- What the lane run gives the writer keeps the record's rules. Assumes nothing.
 use mathlib.Core.Path.{_≡_, refl, sym, ap, _∙_, subst}
-use mathlib.Core.Bool.{Bool, true, false, cond, _&&_, _||_}
+use mathlib.Core.Bool.{Bool, true, false, _||_}
 use mathlib.Core.Logic.{_⊎_, ⊎-elim}
 use mathlib.Core.Option.{some}
 use mathlib.Core.List.{List, [], _∷_}
 use Prim.Native.Nat.{ℕ, _*_}
 use native.Mathlib.Omega.{arith}
-use lib.Dec.{T, leb, eqb}
+use lib.Dec.{T, eqb}
 use lib.ListN.{length, take, drop}
 use lib.Seq.{take-append-seam}
 use borrow.Author.Tests.{le-leb, eq-eqb}
@@ -18,7 +18,7 @@ use Rattle.predicate_answer.specs.declared.CompiledMmioEvent.{CompiledMmioEvent
 use Rattle.predicate_trace.specs.declared.PredicateControlStep.{PredicateControlStep}
 use Rattle.predicate_semantics.specs.declared.Rv32SymbolLayout.{Rv32SymbolLayout}
 use Rattle.predicate_semantics.specs.Program.{Program}
-use Rattle.predicate_answer.specs.Blank.{maxEvents}
+use Rattle.predicate_answer.specs.Blank.{maxEvents, noEvents}
 use Rattle.predicate_semantics.specs.State.{Result}
 use Rattle.predicate_semantics.specs.Tested.{Tested, passed}
 use Rattle.predicate_answer.specs.Refusal.{Refusal}
@@ -26,13 +26,12 @@ use Rattle.predicate_semantics.specs.Tested as Tested
 use Rattle.predicate_semantics.specs.Lane.{LaneState, Setup, Ended, laneCount, laneOperations, writtenBytes, execution}
 use Rattle.predicate_semantics.specs.RecordRules.{Chain, Completed, Accepted, proper}
 use Rattle.predicate_semantics.specs.Standing.{standing, setup, standingLaneRun}
-use Rattle.predicate_answer.specs.Blank.{noEvents}
 use Rattle.predicate_trace.specs.Trace.{traceBytes}
 use Rattle.predicate_semantics.proofs.RecordRules.{refused-proper, takes-step}
 use Rattle.predicate_semantics.proofs.RecordRules as Rules
 use Rattle.predicate_semantics.proofs.TraceFits.{standing-completed, standing-trace-fits}
-use Rattle.lane_record.specs.Format.{Record, accepted, refused}
-use Rattle.lane_record.specs.Rules.{minWrittenBytes, maxWrittenBytes, link, begins, linked, refusalValid, valid}
+use Rattle.lane_record.specs.Format.{accepted, refused}
+use Rattle.lane_record.specs.Rules.{minWrittenBytes, maxWrittenBytes, begins, linked, refusalValid, valid}
 use Rattle.lane_record.specs.Decode.{ruled}
 use Rattle.lane_record.specs.Answers.{given}
 use Rattle.lane_record.specs.Runs.{refusalIn, recordIn, outcomeIn, KeepsRules}

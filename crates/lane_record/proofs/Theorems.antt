@@ -1,5 +1,5 @@
 -- What is written reads back as itself, and what is read is written again byte for byte. Assumes nothing.
-use mathlib.Core.Path.{_≡_, refl, ap, sym, _∙_, subst}
+use mathlib.Core.Path.{_≡_, refl, ap, _∙_, subst}
 use mathlib.Core.Bool.{Bool, true, false, cond, _&&_}
 use mathlib.Core.Option.{Option, none, some}
 use mathlib.Core.List.{List, [], _∷_, _++_, map}
@@ -24,12 +24,12 @@ use Rattle.lane_record.specs.declared.RecordAnswer.{RecordAnswer}
 use Rattle.lane_record.specs.declared.RecordAnswer.the-variants as answer
 use Rattle.lane_record.specs.declared.RecordOutcome.{RecordOutcome}
 use Rattle.lane_record.specs.Format.{step, widths, Record, accepted, refused, encode, FitsRecord}
-use Rattle.lane_record.specs.Rules.{link, begins, linked, valid}
+use Rattle.lane_record.specs.Rules.{link, linked, valid}
 use Rattle.lane_record.specs.Decode.{ruled, decodeRecord}
 use Rattle.lane_record.specs.Answers.{Said, done, wrote, refuses, noOutcome, refusedOutcome, acceptedOutcome, readAnswer, readOutcome, readTrace, acceptedGiven, givenAccepted, givenRefused, givenBy, given, writeAnswer, writeOutput}
 use Rattle.lane_record.specs.RoundTrip.{whatCountsBy, entriesBy, FitsBy, ReadBack, Rewritten}
 use Rattle.lane_record.proofs.TestLaws.{both, yes}
-use Rattle.lane_record.proofs.DecodeLaws.{ruled-some, values-steps, steps-fit, rules, decode-encode, Same, decode-same}
+use Rattle.lane_record.proofs.DecodeLaws.{ruled-some, values-steps, steps-fit, rules, decode-encode, decode-same}
 
 -- ---- entries of a trace
 led-nil : (z n : ℕ) (bs : List ℕ) → Led [] z n bs

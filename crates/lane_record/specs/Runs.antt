@@ -9,7 +9,7 @@ use Rattle.predicate_semantics.specs.State.{Result}
 use Rattle.predicate_semantics.specs.Tested.{Tested, passed}
 use Rattle.predicate_answer.specs.Refusal.{Refusal}
 use Rattle.predicate_semantics.specs.Tested as Tested
-use Rattle.predicate_semantics.specs.Lane.{LaneState, Ended, execution}
+use Rattle.predicate_semantics.specs.Lane.{LaneState, execution}
 use Rattle.predicate_semantics.specs.Standing.{standing, setup, standingLaneRun}
 use Rattle.predicate_trace.specs.Trace.{traceBytes}
 use Rattle.lane_record.specs.declared.RecordRefusal.{RecordRefusal}

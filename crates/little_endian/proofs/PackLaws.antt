@@ -5,7 +5,7 @@ use Prim.Native.Nat.{ℕ, zero, suc, _+_, _*_, _≤_}
 use native.Mathlib.Nat.{suc-mul, zero-mul}
 use native.Mathlib.Omega.{arith}
 use lib.ListN.{length, take, drop, length-append, length-drop}
-use lib.Seq.{take-at, drop-at, drop-append-seam, take-add, drop-drop, length-take-le}
+use lib.Seq.{take-at, drop-at, drop-append-seam, take-add, length-take-le}
 use Rattle.little_endian.specs.Number.{value, bytes, AllBytes}
 use Rattle.little_endian.specs.Pack.{total, pack, unpack, packs, unpacks, Fits, AllFit}
 use Rattle.little_endian.proofs.NumberLaws.{length-bytes, value-bytes, bytes-value, value-below, below-take, below-drop}

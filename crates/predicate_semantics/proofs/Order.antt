@@ -1,5 +1,4 @@
 -- The order of the tests before any step. Assumes nothing.
-use mathlib.Core.Path.{_≡_, refl}
 use Rattle.predicate_semantics.specs.Program.{Program}
 use Rattle.predicate_semantics.specs.Tested.{_>>=_, refuse, require}
 use Rattle.predicate_semantics.specs.Lane.{Setup, startTests, start}

@@ -11,7 +11,6 @@ use Rattle.riscv32imc.specs.Constants.{imageBase}
 use Rattle.rv32_arithmetic.specs.Value.{valueOf}
 use Rattle.riscv_decode.specs.declared.Fetched.{Fetched}
 use Rattle.lane_word.specs.declared.LaneWord.{LaneWord}
-use Rattle.lane_word.specs.Word.{constant}
 use Rattle.predicate_action.specs.declared.Action.{Action}
 use Rattle.predicate_action.specs.declared.Action.the-variants.{Nothing, Literal, Compute, ComputeImmediate, Jump, JumpTo, Branch, Load, Store}
 use Rattle.predicate_action.specs.Meaning.{extensionOf}
@@ -28,7 +27,7 @@ use Rattle.predicate_semantics.specs.Lane as Lane
 use Rattle.predicate_semantics.specs.Scalar.{Bytes, ScalarState}
 use Rattle.predicate_semantics.specs.Scalar as Scalar
 use Rattle.predicate_semantics.proofs.Sim.{Sim, stops, agrees, bind, bind-same, bind-lane, bind-value, bind-into, sim-require, sim-last, sim-found, sim-choose, sim-ended, bind-ended}
-use Rattle.predicate_semantics.proofs.Values.{At, at-unary, at-binary, at-unknown, sim-agreed, Regs, regs-at, regs-assign, regs-fill, at-start, OneLane, In, Mem, at-constant, at-domain, at-read, mem-write, mem-initial}
+use Rattle.predicate_semantics.proofs.Values.{at-unary, at-binary, at-unknown, sim-agreed, Regs, regs-at, regs-assign, regs-fill, at-start, OneLane, In, Mem, at-constant, at-domain, at-read, mem-write, mem-initial}
 
 -- the scalar state with a lane state's progress
 abbrev pub view : LaneState → List ℕ → Bytes → ScalarState

@@ -1,21 +1,15 @@
 -- The numbers of a run's trace fit their places. Assumes nothing.
-use mathlib.Core.Path.{_≡_, refl, ap, _∙_}
 use mathlib.Core.Logic.{⊎-elim}
 use mathlib.Core.List.{List, [], _∷_, map}
-use Prim.Native.Nat.{ℕ, _+_, _*_, _≤_, _<_}
+use Prim.Native.Nat.{ℕ, _<_}
 use native.Mathlib.Omega.{arith}
-use lib.ListN.{length, drop, length-map}
-use lib.Seq.{sets}
-use borrow.Author.Tests.{le-leb}
-use Rattle.little_endian.specs.Pack.{pack, AllFit}
-use Rattle.little_endian.specs.Lent.{over}
-use Rattle.little_endian.proofs.PackLaws.{unpacks-packs}
+use Rattle.little_endian.specs.Pack.{AllFit}
 use Rattle.riscv32imc.specs.Constants.{maxSteps}
 use Rattle.predicate_trace.specs.declared.PredicateControlStep.{PredicateControlStep}
 use Rattle.predicate_semantics.specs.declared.Rv32SymbolLayout.{Rv32SymbolLayout}
 use Rattle.predicate_semantics.specs.RecordRules.{Chain, Words, Completed}
 use Rattle.predicate_semantics.specs.Standing.{standing, setup, standingLaneRun}
-use Rattle.predicate_trace.specs.Trace.{stepWidths, entryBytes, stepValues, stepOf, traceBytes, stepsAt, putEntry}
+use Rattle.predicate_trace.specs.Trace.{stepWidths, stepValues}
 use Rattle.predicate_semantics.proofs.RecordRules.{completed}
 use Rattle.predicate_semantics.proofs.ExpandedWords.{standing-expands-to-words}
 

@@ -1,8 +1,7 @@
 -- The standing run as one use of the run over a setting, and its whole outcome: the result read off the code's own outputs, and demand 3 over it. Assumes nothing.
 use mathlib.Core.Path.{_≡_, refl, sym, ap, _∙_, subst}
 use mathlib.Core.List.{List, []}
-use mathlib.Core.Option.{some}
-use Prim.Native.Nat.{ℕ, _≤_}
+use Prim.Native.Nat.{ℕ}
 use native.Mathlib.Omega.{arith}
 use lib.ListN.{length, take, drop}
 use lib.Seq.{take-append-seam}
@@ -16,7 +15,7 @@ use Rattle.predicate_answer.specs.Blank.{noEvents}
 use Rattle.predicate_semantics.specs.declared.Rv32SymbolLayout.{Rv32SymbolLayout}
 use Rattle.predicate_semantics.specs.State.{Result}
 use Rattle.predicate_semantics.specs.Tested.{Tested, passed, refused}
-use Rattle.predicate_semantics.specs.Lane.{Ended, execution, LaneState}
+use Rattle.predicate_semantics.specs.Lane.{Ended, execution}
 use Rattle.predicate_semantics.specs.Standing.{standingCore, standing, setup, standingLaneRun}
 use Rattle.predicate_semantics.specs.RecordRules.{Accepted}
 use Rattle.predicate_semantics.proofs.Guarantee.{guarantee}

@@ -12,17 +12,15 @@ use Rattle.lane_word.specs.declared.LaneWord.{LaneWord}
 use Rattle.lane_word.specs.Word.{lanes}
 use Rattle.predicate_answer.specs.declared.CompiledMmioEvent.{CompiledMmioEvent}
 use Rattle.predicate_semantics.specs.declared.Rv32SymbolLayout.{Rv32SymbolLayout}
-use Rattle.predicate_answer.specs.Blank.{noEvent, noEvents}
+use Rattle.predicate_answer.specs.Blank.{noEvent, noEvents, maxEvents}
 use Rattle.predicate_semantics.specs.Program.{eventStride}
-use Rattle.predicate_answer.specs.Blank.{maxEvents}
 use Rattle.predicate_semantics.specs.State.{Result}
 use Rattle.predicate_semantics.specs.Tested.{Tested, passed, refused, _>>=_, refuse, require}
-use Rattle.predicate_answer.specs.Refusal.{Refusal}
-use Rattle.predicate_semantics.specs.Lane.{LaneState, memoryOf, reg, agreed, accessAgreed, eventAt, events, finishEvents, finish}
+use Rattle.predicate_answer.specs.Refusal.{Refusal, refusalOf}
+use Rattle.predicate_semantics.specs.Lane.{LaneState, reg, agreed, accessAgreed, eventAt, events, finishEvents, finish}
 use Rattle.predicate_answer.specs.declared.Rv32Error.the-variants as error
 use Rattle.lane_access.specs.declared.Verdict.the-variants as verdict
 use Rattle.lane_access.specs.Seen.{seen}
-use Rattle.predicate_answer.specs.Refusal.{refusalOf}
 use Rattle.riscv32imc_predicate.specs.declared.Recorded.{Recorded}
 use Rattle.riscv32imc_predicate.specs.Setting.{Setting}
 use Rattle.riscv32imc_predicate.proofs.LaneCount.{lane-count}

@@ -11,8 +11,8 @@ use Rattle.lane_word.specs.Word.{lanes}
 use Rattle.predicate_semantics.specs.declared.Rv32SymbolLayout.{Rv32SymbolLayout}
 use Rattle.predicate_semantics.specs.Program.{Core, stop}
 use Rattle.predicate_semantics.specs.Tested.{Tested, passed, refused, _>>=_, refuse}
-use Rattle.predicate_semantics.specs.Lane.{LaneState, laneCount, memoryOf, fetch, attempt, step, run}
-use Rattle.predicate_semantics.specs.Standing.{expandedWord, decodedOperation, standingCore}
+use Rattle.predicate_semantics.specs.Lane.{LaneState, laneCount, memoryOf, fetch, attempt, step}
+use Rattle.predicate_semantics.specs.Standing.{standingCore}
 use Rattle.predicate_semantics.proofs.Laws.{run-out, run-refused}
 use Rattle.predicate_semantics.proofs.Sources.{fetched-decodes, standing-names}
 use Rattle.predicate_action.specs.Meaning.{meaning}

@@ -1,7 +1,7 @@
 -- What each form of an operation comes to, where the code is given its sources' words. Assumes nothing.
 use mathlib.Core.List.{List}
 use mathlib.Core.Path.{_≡_, refl, sym, ap, _∙_}
-use Prim.Native.Nat.{ℕ, zero, suc, _+_, _%_, _^_, _≤_}
+use Prim.Native.Nat.{ℕ, _+_}
 use native.Mathlib.Omega.{arith}
 use lib.Dec.{eqb, leb, ltb}
 use lib.ListN.{length}
@@ -19,7 +19,7 @@ use Rattle.predicate_action.specs.Meaning.{extensionOf}
 use Rattle.rv32_arithmetic.specs.declared.Binary.{Binary}
 use Rattle.rv32_arithmetic.specs.Value.{valueOf}
 use Rattle.predicate_semantics.specs.Program.{imageEnd}
-use Rattle.predicate_semantics.specs.State.{Effect, goes, sets, stores}
+use Rattle.predicate_semantics.specs.State.{goes, sets, stores}
 use Rattle.predicate_semantics.specs.Memory.{write}
 use Rattle.predicate_semantics.specs.Tested.{Tested, passed, refused, _>>=_, require}
 use Rattle.predicate_semantics.specs.Lane.{LaneState, reg, inside, agreedAs, agreed, access, roomFor, execute}

@@ -16,12 +16,11 @@ use Rattle.lane_word.specs.Word.{unknown, constant, binary, uniformOf, lanes}
 use Rattle.lane_word.specs.Told.{wordOf, toldBy}
 use Rattle.lane_word.proofs.ToldLaws.{binary-size, word-size, told-by-value}
 use Rattle.predicate_semantics.specs.Tested.{passed}
-use Rattle.predicate_semantics.specs.State.{Effect, goes, sets, stores, assign, apply, advanced}
+use Rattle.predicate_semantics.specs.State.{Effect, goes, sets, stores, apply, advanced}
 use Rattle.predicate_semantics.specs.Lane.{LaneState, laneCount, memoryOf, reg, step}
 use Rattle.predicate_semantics.specs.Lane as Lane
 use Rattle.predicate_semantics.proofs.Reached.{after-next}
 use Rattle.predicate_semantics.proofs.Sources.{fetched-decodes}
-use Rattle.predicate_action.specs.declared.Action.{Action}
 use Rattle.predicate_action.specs.declared.Reading.{Reading}
 use Rattle.predicate_action.specs.Reading.{readingOf, computed, ReadsBelow}
 use Rattle.predicate_answer.specs.declared.Rv32Error.{Rv32Error}
@@ -34,13 +33,12 @@ use Rattle.riscv32imc_predicate.specs.declared.Decision.the-variants as 
 use Rattle.riscv32imc_predicate.specs.declared.Ending.the-variants as ending
 use Rattle.riscv32imc_predicate.specs.declared.Place.{Place}
 use Rattle.riscv32imc_predicate.specs.declared.Progress.{Progress}
-use Rattle.riscv32imc_predicate.specs.declared.Reached.{Reached}
 use Rattle.riscv32imc_predicate.specs.declared.Recorded.{Recorded}
 use Rattle.riscv32imc_predicate.specs.Setting.{Setting, Fixed, registersOf, registerCount}
 use Rattle.riscv32imc_predicate.specs.Changes.{decisionOf, Untold, Suits, Sources}
 use Rattle.riscv32imc_predicate.specs.Coming.{Continues, Ends}
 use Rattle.riscv32imc_predicate.specs.Register.{firstOperand, secondOperand, Held, blank, value, byLanes, slotOf, operandTold, placeOf, laidOut, Stores, LoadsLanes}
-use Rattle.riscv32imc_predicate.specs.Tracking.{Keeps, Machine, Stands, Located, Decides}
+use Rattle.riscv32imc_predicate.specs.Tracking.{Machine, Stands, Located, Decides}
 use Rattle.riscv32imc_predicate.proofs.Filing.{held-source, held-lanes, held-value, held-word, held-laid, laid-read, laid-other, place-apart, operand-word}
 use Rattle.riscv32imc_predicate.proofs.Following.{given}
 use Rattle.riscv32imc_predicate.proofs.Stepping.{after, nextOf, Leaves, Completes, Decided, Passes, passes, stepped, on-passed, on-refused, leaves-going, leaves-setting, leaves-storing}

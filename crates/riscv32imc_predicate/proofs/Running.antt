@@ -2,7 +2,7 @@
 use mathlib.Core.Path.{_≡_, refl, sym, ap, _∙_, subst}
 use mathlib.Core.Bool.{Bool, true, false, not, _&&_}
 use mathlib.Core.List.{List, []}
-use Prim.Native.Nat.{ℕ, zero, suc, _+_, _-_, _*_, _%_, _^_, _≤_, _<_}
+use Prim.Native.Nat.{ℕ, zero, suc, _+_, _-_, _*_, _%_, _^_, _≤_}
 use native.Mathlib.Nat.{mod-eq-of-lt}
 use native.Mathlib.Omega.{arith}
 use lib.Dec.{leb, ltb}
@@ -44,8 +44,8 @@ use Rattle.riscv32imc_predicate.specs.declared.PredicateAnswer.the-varia
 use Rattle.riscv32imc_predicate.specs.declared.PredicateRun.{PredicateRun}
 use Rattle.riscv32imc_predicate.specs.Setting.{Setting, Fixed, fixed, firstState, rest, registersOf}
 use Rattle.riscv32imc_predicate.specs.Coming.{Ends}
-use Rattle.riscv32imc_predicate.specs.Register.{Held, startRegisters, StartsWith}
-use Rattle.riscv32imc_predicate.specs.Tracking.{machine, Tracks, Stands, Arrives, startPlace, startRecorded}
+use Rattle.riscv32imc_predicate.specs.Register.{Held, StartsWith}
+use Rattle.riscv32imc_predicate.specs.Tracking.{machine, Stands, Arrives, startPlace, startRecorded}
 use Rattle.riscv32imc_predicate.specs.Reporting.{refusedRun, Reports, Counts, Begins, whole, never, wholeRun, Calls, Runs}
 use Rattle.riscv32imc_predicate.proofs.LaneCount.{lane-count}
 

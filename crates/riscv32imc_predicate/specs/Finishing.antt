@@ -1,5 +1,5 @@
 -- What the code answers at stop, in the semantics.
-use mathlib.Core.List.{List, []}
+use mathlib.Core.List.{List}
 use mathlib.Core.Path.{_≡_}
 use Prim.Native.Nat.{ℕ}
 use Rattle.little_endian.specs.Lent.{over}

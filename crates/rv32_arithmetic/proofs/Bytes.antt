@@ -1,5 +1,5 @@
 -- The bytes of a word: a shift by 8 k places is a division by 256 ^ k, and a word has four bytes. Assumes nothing.
-use mathlib.Core.Path.{_≡_, refl, sym, _∙_}
+use mathlib.Core.Path.{_≡_, refl, sym}
 use Prim.Native.Nat.{ℕ, zero, suc, _+_, _*_, _/_, _%_, _^_, _≤_, _<_}
 use native.Mathlib.Nat.{pow-suc, pow-le-pow-right, div-eq-of-lt}
 use native.Mathlib.Omega.{arith}

@@ -1,7 +1,6 @@
 use denote.Ref.{now}
 use native.Mathlib.Omega.{arith}
 use lib.ListN.{length}
-use borrow.Author.Needs.{needs}
 use borrow.Author.Tests.{lt-ltb, le-ltb}
 use Rattle.lane_library.specs.Inputs.{symbolBytes}
 use Rattle.lane_library.proofs.takes.Statement.{statement}

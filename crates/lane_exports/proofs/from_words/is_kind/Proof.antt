@@ -1,5 +1,4 @@
 use borrow.Author.Tests.{eq-eqb, ne-eqb}
-use borrow.Author.Needs.{needs}
 use Rattle.lane_exports.proofs.from_words.is_kind.Statement.{statement}
 use Rattle.lane_exports.proofs.from_words.is_kind.Tie as tie
 

@@ -1,6 +1,5 @@
 use mathlib.Core.Path.{_≡_, _∙_}
 use native.Mathlib.Omega.{arith}
-use borrow.Author.Needs.{needs}
 use Rattle.lane_record.proofs.LoopLaws.{room, begins-some}
 use Rattle.lane_record.proofs.rules.begins_at.Statement.{statement}
 use Rattle.lane_record.proofs.rules.begins_at.Tie as tie

@@ -1,9 +1,7 @@
-use mathlib.Core.Path.{sym, ap, _∙_}
 use borrow.Author.Needs.{needs}
 use borrow.Author.Tests.{eq-eqb, ne-eqb}
 use Rattle.predicate_semantics.specs.Choice.{choose}
 use Rattle.predicate_semantics.specs.Tested.{_>>=_}
-use Rattle.lane_access.specs.Answers.{agreedOf}
 use Rattle.riscv32imc_predicate.proofs.decide.branch.Statement.{statement}
 use Rattle.riscv32imc_predicate.proofs.decide.branch.Tie as tie
 

@@ -1,4 +1,4 @@
-use mathlib.Core.Path.{_≡_, subst}
+use mathlib.Core.Path.{subst}
 use borrow.Author.Needs.{needs}
 use Rattle.lane_access.specs.declared.Verdict.{Verdict}
 use Rattle.predicate_semantics.specs.Lane.{finish}

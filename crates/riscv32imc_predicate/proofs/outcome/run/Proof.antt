@@ -4,9 +4,7 @@ use Prim.Native.Nat.{ℕ}
 use lib.ListN.{length}
 use denote.Ref.{now}
 use borrow.Author.Needs.{needs}
-use Rattle.lane_word.specs.declared.LaneWord.{LaneWord}
 use Rattle.predicate_answer.specs.Refusal.{refusalOf}
-use Rattle.predicate_semantics.specs.declared.Rv32SymbolLayout.{Rv32SymbolLayout}
 use Rattle.predicate_semantics.specs.Tested.{passed}
 use Rattle.predicate_semantics.specs.Lane.{begin, startTests}
 use Rattle.predicate_semantics.specs.Program.{stop, stopWord}

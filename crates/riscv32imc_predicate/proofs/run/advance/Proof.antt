@@ -12,21 +12,18 @@ use Rattle.lane_word.specs.declared.LaneWord.{LaneWord}
 use Rattle.lane_word.specs.declared.Told.{Told}
 use Rattle.lane_word.specs.Word.{lanes}
 use Rattle.lane_word.specs.Told.{wordOf, toldBy}
-use Rattle.predicate_semantics.specs.declared.Rv32SymbolLayout.{Rv32SymbolLayout}
 use Rattle.predicate_semantics.specs.Lane.{LaneState}
 use Rattle.lane_memory.specs.Rows.{cleared}
 use Rattle.lane_memory.proofs.Laws.{cleared-long}
-use Rattle.riscv32imc_predicate.specs.declared.Bounds.{Bounds}
 use Rattle.riscv32imc_predicate.specs.declared.Change.{Change}
 use Rattle.riscv32imc_predicate.specs.declared.Decision.{Decision}
-use Rattle.riscv32imc_predicate.specs.declared.Decision.the-variants as decision
 use Rattle.riscv32imc_predicate.specs.declared.Hint.{Hint}
 use Rattle.riscv32imc_predicate.specs.declared.Place.{Place}
 use Rattle.riscv32imc_predicate.specs.declared.Progress.{Progress}
 use Rattle.riscv32imc_predicate.specs.declared.Recorded.{Recorded}
 use Rattle.riscv32imc_predicate.specs.Setting.{Setting, Fixed, fixed, registerCount}
 use Rattle.riscv32imc_predicate.specs.Changes.{Suits}
-use Rattle.riscv32imc_predicate.specs.Coming.{Continues, Ends, Comes}
+use Rattle.riscv32imc_predicate.specs.Coming.{Continues, Comes}
 use Rattle.riscv32imc_predicate.specs.Register.{firstOperand, secondOperand, places, placeOf, laidOut, blank, value, byLanes}
 use Rattle.riscv32imc_predicate.specs.Tracking.{Machine, Stands, Decides, Located}
 use Rattle.riscv32imc_predicate.proofs.Filing.{unknown-size, place-below, slot-below}

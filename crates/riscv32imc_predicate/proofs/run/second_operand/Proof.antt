@@ -1,4 +1,3 @@
-use borrow.Author.Needs.{needs}
 use Rattle.riscv32imc_predicate.proofs.run.second_operand.Statement.{statement}
 use Rattle.riscv32imc_predicate.proofs.run.second_operand.Tie as tie
 

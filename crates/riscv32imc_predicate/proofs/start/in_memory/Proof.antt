@@ -1,4 +1,3 @@
-use borrow.Author.Needs.{needs}
 use borrow.Author.Tests.{le-leb, lt-leb}
 use Rattle.predicate_semantics.specs.Program.{inMemory}
 use Rattle.riscv32imc_predicate.proofs.start.in_memory.Statement.{statement}

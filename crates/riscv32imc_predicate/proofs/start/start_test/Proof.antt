@@ -1,6 +1,6 @@
 use mathlib.Core.Path.{sym, _∙_}
 use borrow.Author.Needs.{needs}
-use borrow.Author.Tests.{le-leb, lt-leb, lt-ltb, eq-eqb}
+use borrow.Author.Tests.{le-leb, lt-leb}
 use Rattle.predicate_semantics.specs.Program.{sized}
 use Rattle.predicate_semantics.specs.Tested.{_>>=_, refuse, require}
 use Rattle.predicate_semantics.specs.Lane.{startTests}
