@@ -30,17 +30,19 @@ use Rattle.riscv32imc_predicate.specs.declared.Change.{Change}
 use Rattle.riscv32imc_predicate.specs.declared.Change.the-variants as change
 use Rattle.riscv32imc_predicate.specs.declared.Decision.{Decision}
 use Rattle.riscv32imc_predicate.specs.declared.Decision.the-variants as decision
+use Rattle.riscv32imc_predicate.specs.declared.Ending.{Ending}
 use Rattle.riscv32imc_predicate.specs.declared.Ending.the-variants as ending
 use Rattle.riscv32imc_predicate.specs.declared.Place.{Place}
 use Rattle.riscv32imc_predicate.specs.declared.Progress.{Progress}
+use Rattle.riscv32imc_predicate.specs.declared.Reached.{Reached}
 use Rattle.riscv32imc_predicate.specs.declared.Recorded.{Recorded}
 use Rattle.riscv32imc_predicate.specs.Setting.{Setting, Fixed, registersOf, registerCount}
 use Rattle.riscv32imc_predicate.specs.Changes.{decisionOf, Untold, Suits, Sources}
 use Rattle.riscv32imc_predicate.specs.Coming.{Continues, Ends}
 use Rattle.riscv32imc_predicate.specs.Register.{firstOperand, secondOperand, Held, blank, value, byLanes, slotOf, operandTold, placeOf, laidOut, Stores, LoadsLanes}
-use Rattle.riscv32imc_predicate.specs.Tracking.{Machine, Stands, Located, Decides}
+use Rattle.riscv32imc_predicate.specs.Tracking.{Machine, Stands, Arrives, reachedWith, Located, Decides}
 use Rattle.riscv32imc_predicate.proofs.Filing.{held-source, held-lanes, held-value, held-word, held-laid, laid-read, laid-other, place-apart, operand-word}
-use Rattle.riscv32imc_predicate.proofs.Following.{given}
+use Rattle.riscv32imc_predicate.proofs.Following.{given, return-word}
 use Rattle.riscv32imc_predicate.proofs.Stepping.{after, nextOf, Leaves, Completes, Decided, Passes, passes, stepped, on-passed, on-refused, leaves-going, leaves-setting, leaves-storing}
 
 abbrev pub withWords : Machine → List LaneWord → Machine
@@ -57,6 +59,13 @@ pub record Looped (c : Setting) (g : Fixed) (s : LaneState) (m : Machine) (word 
 pub looped-start : {c : Setting} {g : Fixed} {s : LaneState} {m : Machine} {word : LaneWord} → length (word .values) ≡ lanes → Stands c g m s → Looped c g s m word
 unfolding Lane.after
 looped-start {s = s} e h = record { state = s; taken = 0; came = refl; stands = h; size = e }
+
+-- what the call then hands back
+pub arrives-as : {c : Setting} {g : Fixed} {s : LaneState} {m : Machine} {word : LaneWord} (i : Looped c g s m word) (b : Machine) → Stands c g b (i .state)
+    → (q : Ending) → Ends c (g .bounds .pause) q (i .state) → {r : Reached} → r ≡ reachedWith (b .place) q (b .noted) (b .words) (b .hints)
+    → Arrives c g s r (b .rows) (b .trace)
+arrives-as i b h q e z =
+    rw z (record { state = i .state; taken = i .taken; after = i .came; stands = h; ends = e; return-word = sym (return-word h (value 0) blank) })
 
 -- ---- the words of a step, by what the loop holds
 

@@ -3,15 +3,16 @@ use mathlib.Core.Option.{some}
 use mathlib.Core.List.{List, [], _∷_, _++_}
 use mathlib.Core.Path.{_≡_}
 use Prim.Native.Nat.{ℕ, _+_, _%_, _^_, _≤_, _<_}
-use lib.ListN.{length, take, replicate}
+use lib.ListN.{length, getD, take, replicate}
 use Rattle.rv32_arithmetic.specs.Arithmetic.{add}
 use Rattle.lane_word.specs.declared.LaneWord.{LaneWord}
 use Rattle.lane_word.specs.declared.Uniform.{Uniform}
+use Rattle.lane_word.specs.Told.{wordOf}
 use Rattle.predicate_answer.specs.Blank.{maxEvents}
 use Rattle.predicate_semantics.specs.Program.{imageEnd}
 use Rattle.predicate_semantics.specs.State.{recorded}
 use Rattle.predicate_semantics.specs.Memory.{LaneBytes}
-use Rattle.predicate_semantics.specs.Lane.{LaneState, execute}
+use Rattle.predicate_semantics.specs.Lane.{LaneState, reg, execute}
 use Rattle.predicate_semantics.specs.Lane as Lane
 use Rattle.predicate_semantics.specs.Kept.{Kept}
 use Rattle.predicate_trace.specs.declared.PredicateControlStep.{PredicateControlStep}
@@ -21,6 +22,7 @@ use Rattle.lane_memory.specs.Holds.{Holds}
 use Rattle.lane_access.specs.Seen.{seen, Above}
 use Rattle.riscv32imc_predicate.specs.declared.Place.{Place}
 use Rattle.riscv32imc_predicate.specs.declared.Recorded.{Recorded}
+use Rattle.riscv32imc_predicate.specs.declared.Ending.{Ending}
 use Rattle.riscv32imc_predicate.specs.declared.Hint.{Hint}
 use Rattle.riscv32imc_predicate.specs.declared.Registers.{Registers}
 use Rattle.riscv32imc_predicate.specs.declared.Progress.{Progress}
@@ -29,7 +31,7 @@ use Rattle.riscv32imc_predicate.specs.declared.Reached.{Reached}
 use Rattle.riscv32imc_predicate.specs.Setting.{Setting, Fixed, Serves, registersOf}
 use Rattle.riscv32imc_predicate.specs.Changes.{decisionOf, lastTested, Suits, Given, Sources}
 use Rattle.riscv32imc_predicate.specs.Coming.{Ends}
-use Rattle.riscv32imc_predicate.specs.Register.{Held}
+use Rattle.riscv32imc_predicate.specs.Register.{Held, blank, value}
 
 -- the first locations are kept, all of them counted
 abbrev pub Keeps : Recorded → List ℕ → Type 0
@@ -74,6 +76,17 @@ pub record Stands (c : Setting) (g : Fixed) (m : Machine) (s : LaneState) : Type
   pub keeps : Keeps (m .noted) (s .locations)
   pub held : Held (registersOf c) (m .hints) (m .words) (s .registers)
 
+-- what a call hands back; x10's word is one of its registers'
+abbrev pub reachedWith : Place → Ending → Recorded → List LaneWord → List Hint → Reached
+reachedWith place ending noted words hints = record {
+  place = place;
+  ending = ending;
+  recorded = noted;
+  words = words;
+  hints = hints;
+  x10 = wordOf (getD hints 10 (value 0) .told) (getD words 10 blank);
+}
+
 -- where the call ends: some completed steps on, and standing there
 pub record Arrives (c : Setting) (g : Fixed) (s : LaneState) (r : Reached) (rows trace : List ℕ) : Type 0 where
   pub state : LaneState
@@ -81,6 +94,7 @@ pub record Arrives (c : Setting) (g : Fixed) (s : LaneState) (r : Reached) (rows
   pub after : Lane.after (c .program) (c .setup) taken s ≡ some state
   pub stands : Stands c g (machine (r .place) (record { words = r .words; hints = r .hints }) (r .recorded) rows trace) state
   pub ends : Ends c (g .bounds .pause) (r .ending) state
+  pub return-word : r .x10 ≡ reg (c .program) (c .setup) state 10
 
 -- from every state of every setting at which the code stands when it is called
 abbrev pub Advances : Fixed → Machine → Reached → List ℕ → List ℕ → Type 0

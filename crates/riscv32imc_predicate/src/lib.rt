@@ -112,13 +112,15 @@ struct Registers {
     hints: [Hint; PLACES],
 }
 
-// Where a call of the loop ends, with all that another call would go on from.
+// Where a call of the loop ends, with all that another call would go on from. x10's word stands apart, so that a run that ends
+// there copies no other.
 struct Reached {
     place: Place,
     ending: Ending,
     recorded: Recorded,
     words: [LaneWord; PLACES],
     hints: [Hint; PLACES],
+    x10: LaneWord,
 }
 
 pub enum PredicateAnswer {

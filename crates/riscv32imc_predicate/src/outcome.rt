@@ -14,7 +14,6 @@ use super::start::start_registers;
 use super::start::start_test;
 use lane_access::Verdict;
 use lane_word::LaneWord;
-use lane_word::lanes_of;
 use predicate_answer::PredicateTransducerExecution;
 use predicate_answer::Rv32Error;
 use predicate_answer::no_events;
@@ -124,10 +123,7 @@ pub fn run(
         Ending::Paused => refused(Rv32Error::StepLimit, place.steps),
         Ending::Arrived => {
             let recorded = reached.recorded;
-            let hint = reached.hints[10];
-            let told = hint.told;
-            let x10 = lanes_of(told, reached.words[10]);
-            let finished = finish(recorded, x10, image, symbols, rows);
+            let finished = finish(recorded, reached.x10, image, symbols, rows);
             answered(first_input, place, recorded, finished)
         }
     }

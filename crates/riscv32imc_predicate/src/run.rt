@@ -5,6 +5,7 @@ use super::Decision;
 use super::Ending;
 use super::FIRST_OPERAND;
 use super::Hint;
+use super::PLACES;
 use super::Place;
 use super::REGISTERS;
 use super::Reached;
@@ -19,6 +20,7 @@ use super::ready::ready;
 use lane_word::LaneWord;
 use lane_word::Told;
 use lane_word::Uniform;
+use lane_word::lanes_of;
 use lane_word::tell;
 use lane_word::told_by;
 use predicate_action::Extension;
@@ -32,7 +34,7 @@ ghost use Rattle.lane_word.specs.Word.{unary, binary, constant, lanes};
 ghost use Rattle.predicate_action.specs.Meaning.{extensionOf};
 ghost use Rattle.lane_memory.specs.Rows.{cleared};
 ghost use Rattle.riscv32imc_predicate.specs.Setting.{fixed};
-ghost use Rattle.riscv32imc_predicate.specs.Tracking.{machine, Advances};
+ghost use Rattle.riscv32imc_predicate.specs.Tracking.{machine, reachedWith, Advances};
 ghost use Rattle.riscv32imc_predicate.specs.Register.{slotOf, placeOf, operandTold, Stores, LoadsLanes};
 
 fn second_operand(reading: Reading, second: Told) -> Told
@@ -135,6 +137,29 @@ fn load_lanes(image: &[u8], rows: &[u8], address: u32, width: u32, extension: Ex
     extend(word, extension)
 }
 
+// What a call hands back.
+fn reached(
+    place: Place,
+    ending: Ending,
+    recorded: Recorded,
+    words: [LaneWord; PLACES],
+    hints: [Hint; PLACES],
+) -> Reached
+    ensures { λ r. ⌜ r ≡ reachedWith place ending recorded words hints ⌝ }
+{
+    let hint = hints[10];
+    let told = hint.told;
+    let x10 = lanes_of(told, words[10]);
+    Reached {
+        place,
+        ending,
+        recorded,
+        words,
+        hints,
+        x10,
+    }
+}
+
 // Steps up to stop, the pause or a refusal. The registers stay here, each told by one value or by its lanes; only single words cross calls.
 pub fn advance(
     first: Place,
@@ -158,13 +183,7 @@ pub fn advance(
         let progress = ready(place, image, rows, bounds);
         if !progress.more {
             let ending = progress.ending;
-            return Reached {
-                place,
-                ending,
-                recorded,
-                words,
-                hints,
-            };
+            return reached(place, ending, recorded, words, hints);
         }
         let reading = progress.reading;
         let function = reading.function;
@@ -197,13 +216,7 @@ pub fn advance(
         let decision = decide(progress, place, tested, image, rows, bounds.entries);
         match decision {
             Decision::Refused(error) => {
-                return Reached {
-                    place,
-                    ending: Ending::Refused(error),
-                    recorded,
-                    words,
-                    hints,
-                };
+                return reached(place, Ending::Refused(error), recorded, words, hints);
             }
             Decision::Goes { change, next } => {
                 let mut new: u32 = 0;

@@ -16,7 +16,7 @@ use Rattle.riscv32imc_predicate.specs.declared.Bounds.{Bounds}
 use Rattle.riscv32imc_predicate.specs.Setting.{Setting, fixed, firstState}
 use Rattle.riscv32imc_predicate.specs.Tracking.{Machine, machine, Stands, Arrives}
 use Rattle.riscv32imc_predicate.specs.Reporting.{Calls}
-use Rattle.riscv32imc_predicate.proofs.Following.{sees, return-word}
+use Rattle.riscv32imc_predicate.proofs.Following.{sees}
 use Rattle.riscv32imc_predicate.proofs.Running.{run-refused-first, reports-refused, loopFixed, begin-stands, runs-as, ended-refused, ended-arrived, never-paused, counts, events-low}
 use Rattle.riscv32imc_predicate.proofs.outcome.run.Statement.{statement}
 use Rattle.riscv32imc_predicate.proofs.outcome.run.Tie as tie
@@ -79,7 +79,7 @@ abbrev paused : tie.After-refused3 → tie.After-advance
 paused c = c .before .before .before .before .before .before .before .before
 
 abbrev stopped : tie.After-finish-arg → tie.After-advance
-stopped c = c .before .before .before .before .before .before .before .before .before .before .before .before
+stopped c = c .before .before .before .before .before .before .before .before .before
 
 pub run-spec : {M : Type 1} → statement M
 unfolding begin putEntries
@@ -112,9 +112,6 @@ run-spec =
     (λ c. search needs)
     (λ c κs. search needs)
     (λ c. search needs)
-    (λ c. search needs)
-    (λ c. search needs)
-    (λ c κs. search needs)
     (λ c κs.
     let k = stopped c in
     let a = start (told k) .args in
@@ -135,11 +132,10 @@ run-spec =
     (λ c. stopped (c .before .before) .advance .kept .1 .1 .1 .1 .1 .1 .0)
     (λ c x s.
     let f = c .before in
-    let w = f .before .before in
     let k = stopped (f .before) in
     let a = reaches k x s in
     let r = f .finish .ensures x (a .state)
     (record { same-lanes = s .serves .same-lanes; same-symbols = s .serves .same-symbols; same-bytes = sees (a .stands); keeps = a .stands .keeps })
-    (return-word (a .stands) _ _ ∙ sym (w .lanes-of .ensures)) in
-    runs-as s (ended-arrived s (passes (told k)) a (w .before .before .before .before .enum-told3 .given .1))
+    (sym (a .return-word)) in
+    runs-as s (ended-arrived s (passes (told k)) a (f .before .before .before .enum-told3 .given .1))
     (c .answered .ensures x (a .state) (s .begins) (counts s (passes (told k)) a) r) (a .stands .tracks .traced) (same-rows k)))

@@ -17,6 +17,7 @@ use Rattle.lane_memory.specs.Rows.{cleared}
 use Rattle.lane_memory.proofs.Laws.{cleared-long}
 use Rattle.riscv32imc_predicate.specs.declared.Change.{Change}
 use Rattle.riscv32imc_predicate.specs.declared.Decision.{Decision}
+use Rattle.riscv32imc_predicate.specs.declared.Ending.the-variants as ending
 use Rattle.riscv32imc_predicate.specs.declared.Hint.{Hint}
 use Rattle.riscv32imc_predicate.specs.declared.Place.{Place}
 use Rattle.riscv32imc_predicate.specs.declared.Progress.{Progress}
@@ -30,7 +31,7 @@ use Rattle.riscv32imc_predicate.proofs.Filing.{unknown-size, place-belo
 use Rattle.riscv32imc_predicate.proofs.Following.{is-at}
 use Rattle.riscv32imc_predicate.proofs.Stepping.{Completes}
 use Rattle.riscv32imc_predicate.proofs.Running.{off, off-off}
-use Rattle.riscv32imc_predicate.proofs.Looping.{withWords, Looped, looped-start, looped-refused, looped-on, fewer-left, toldFirst, toldSecond, toldOperand, wordSecond, Works, by-value, by-words, Applied, applied-rows, stores-as, computed-now}
+use Rattle.riscv32imc_predicate.proofs.Looping.{withWords, Looped, looped-start, arrives-as, looped-refused, looped-on, fewer-left, toldFirst, toldSecond, toldOperand, wordSecond, Works, by-value, by-words, Applied, applied-rows, stores-as, computed-now}
 use Rattle.riscv32imc_predicate.proofs.run.advance.Statement.{statement}
 use Rattle.riscv32imc_predicate.proofs.run.advance.Tie as tie
 
@@ -285,13 +286,15 @@ advance-spec =
     (λ c κs. search needs)
     (λ c. (refl, refl, λ x s h. looped-start (rw (c .unknown .ensures) (unknown-size lanes)) h))
     (λ c κs. search needs)
-    (λ c. rows-long (at (c .before .before)))
-    (λ c. at (c .before .before) .loop .inv .1)
+    (λ c κs. search needs)
+    (λ c. rows-long (at (c .before .before .before)))
+    (λ c. at (c .before .before .before) .loop .inv .1)
     (λ c.
-    let r = c .before .before in (
+    let r = c .before .before .before in (
       λ x s h.
           let i = looped (at r) x s h in
-          record { state = i .state; taken = i .taken; after = i .came; stands = i .stands; ends = subst (λ (b : Bool). Comes x (g (at r) .bounds .pause) b (progress r) (i .state)) (off (progress r .more) (c .if1 .taken)) (comes r x s h) },
+          arrives-as i (held (at r)) (i .stands) (progress r .ending)
+          (subst (λ (b : Bool). Comes x (g (at r) .bounds .pause) b (progress r) (i .state)) (off (progress r .more) (c .before .if1 .taken)) (comes r x s h)) (c .reached .ensures),
       at r .loop .inv .0,
     ))
     (λ c. search needs)
@@ -322,17 +325,18 @@ advance-spec =
     (λ c κs. search needs)
     (λ c κs. search needs)
     (λ c. search needs)
-    (λ c. rows-long (loop₁ (worked (c .before .before .before))))
-    (λ c. loop₁ (worked (c .before .before .before)) .loop .inv .1)
+    (λ c κs. search needs)
+    (λ c. rows-long (loop₁ (worked (c .before .before .before .before))))
+    (λ c. loop₁ (worked (c .before .before .before .before)) .loop .inv .1)
     (λ c.
-    let t = c .before in
+    let t = c .before .before in
     let q = t .before .before in
     let j = worked q in (
       λ x s h.
           let i = looped (loop₁ j) x s h in
           let k = continues (turn j) x s h in
           let e = looped-refused i k (computed-now i k (works j)) (t .decision .given .0 .0) (subst (DecidesAs q) (t .decision .given .1) (q .decide .ensures) .0) in
-          record { state = i .state; taken = i .taken; after = i .came; stands = e .0; ends = e .1 },
+          arrives-as i (withWords (held (loop₁ j)) (j .match .words)) (e .0) (ending.Refused (t .decision .given .0 .0)) (e .1) (c .reached2 .ensures),
       loop₁ j .loop .inv .0,
     ))
     (λ c. search needs)
