@@ -1,5 +1,5 @@
 -- What always holds of a part of the lane run: P of the value that it passes, and R of its refusal.
-use mathlib.Core.Path.{_≡_, refl}
+use mathlib.Core.Path.{_≡_, refl, sym, subst}
 use mathlib.Core.Bool.{Bool, true, false}
 use mathlib.Core.Option.{Option, none, some}
 use Prim.Native.Nat.{ℕ}
@@ -11,6 +11,14 @@ use Rattle.predicate_answer.specs.Refusal.{Refusal}
 pub data Always {A : Type 0} (R : Refusal → Type 0) (P : A → Type 0) : Tested A → Type 0 where
   stops : (r : Refusal) → R r → Always R P (refused r)
   gives : {a : A} → P a → Always R P (passed a)
+
+-- a refusal passes nothing
+abbrev Passes : {A : Type 0} → Tested A → Type 0
+Passes (passed a) = Unit {0}
+Passes (refused r) = ⊥
+
+pub no-pass : {A : Type 0} {r : Refusal} {a : A} → refused r ≡ passed a → ⊥
+no-pass q = subst Passes (sym q) tt
 
 -- the refusal of a number without a role
 abbrev pub plain : ℕ → Refusal

@@ -39,7 +39,7 @@ use Rattle.predicate_semantics.specs.RecordRules.{Chain, Words, ExpandsT
 use Rattle.predicate_semantics.proofs.Lists.{both-left, both-right}
 use Rattle.predicate_semantics.proofs.Laws.{run-stop, steps-apply, write-grows}
 use Rattle.predicate_semantics.proofs.Order.{start-order}
-use Rattle.predicate_semantics.proofs.Always.{Always, stops, gives, bind, weaken, always-require, always-found, always-choose, passes, refuses}
+use Rattle.predicate_semantics.proofs.Always.{no-pass, Always, stops, gives, bind, weaken, always-require, always-found, always-choose, passes, refuses}
 use Rattle.predicate_semantics.proofs.Written.{distinct-none, distinct-write, distinct-fits}
 
 -- a trace goes on from where it leads
@@ -49,7 +49,7 @@ chain-add from to [] c h e b = (e ∙ sym h, b, refl)
 chain-add from to (d ∷ t) c h e b = (h .0, h .1, chain-add (d .«next_program_counter») to t c (h .2) e b)
 
 -- the stop word's four bytes
-four : (w : LaneWord) → length (write [] 4 stop w) ≡ 4
+pub four : (w : LaneWord) → length (write [] 4 stop w) ≡ 4
 unfolding write put choose
 four w = refl
 
@@ -80,11 +80,6 @@ either-fits : (b : Bool) (x y : ℕ) → x < 2 ^ 32 → y < 2 ^ 32 → choose b 
 unfolding choose
 either-fits true x y h g = h
 either-fits false x y h g = g
-
--- a test that passed
-abbrev Passes : {A : Type 0} → Tested A → Type 0
-Passes (passed a) = Unit {0}
-Passes (refused r) = ⊥
 
 -- a step adds at most one location
 recorded-few : (c pc a n : ℕ) (ls : List ℕ) → length (recorded c pc a n ls) ≤ suc (length ls)
@@ -389,7 +384,7 @@ module _ (p : Program) (l : Setup) where
 
   -- where the caller's choice passed
   pub refused-proper : (limit : ℕ) (r : Refusal) → l .choice ≡ passed tt → (laneRun p l limit) .answer ≡ refused r → T (proper r)
-  refused-proper limit r c e = ⊎-elim (λ t. t) (λ q. absurd (subst Passes (sym c ∙ q) tt)) (refuses (rw e at (ends-laneRun limit .2)))
+  refused-proper limit r c e = ⊎-elim (λ t. t) (λ q. absurd (no-pass (sym q ∙ c))) (refuses (rw e at (ends-laneRun limit .2)))
 
 -- x10 is the input: at entry = stop the return value is not uniform
 uneven : (image : List ℕ) (symbols : Rv32SymbolLayout) (rows entries : ℕ)

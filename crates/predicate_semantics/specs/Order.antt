@@ -8,7 +8,7 @@ use Rattle.predicate_semantics.specs.Program.{Program, sized, symbolsPla
 use Rattle.predicate_semantics.specs.Tested.{passed, refused, refuse}
 use Rattle.predicate_semantics.specs.Lane.{Setup, start, begin}
 
--- 1, then 2, then the caller's choice, whatever it refuses with, then 13: the first that fails ends the run, and none before it does
+-- 1, then 2, then the caller's choice, whatever it refuses with, then 13; the first that fails is the run's refusal
 pub record StartOrder (p : Program) (l : Setup) : Type 0 where
   pub image : sized (length (p .image)) ≡ false → start p l ≡ refuse 1 0
   pub symbols : sized (length (p .image)) ≡ true → symbolsPlaced (p .symbols) ≡ false → start p l ≡ refuse 2 0

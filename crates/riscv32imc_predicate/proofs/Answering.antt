@@ -64,7 +64,7 @@ module _ (image : List ℕ) (symbols : Rv32SymbolLayout) (rows trace : List ℕ)
       least-registers = omega arith;
       most-registers = omega arith;
     };
-    begins = record { same-first = refl; same-lanes = length-inputs firstInput lanes };
+    inputs = record { same-first = refl; same-lanes = length-inputs firstInput lanes };
     same-domain = sym e;
     same-choice = refl;
     same-rows = sym (ap rowCount c ∙ unmarked-holds rows .rows);

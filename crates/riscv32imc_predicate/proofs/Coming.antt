@@ -27,7 +27,7 @@ use Rattle.riscv32imc_predicate.specs.declared.Place.{Place}
 use Rattle.riscv32imc_predicate.specs.declared.Ending.{Ending}
 use Rattle.riscv32imc_predicate.specs.declared.Ending.the-variants as ending
 use Rattle.riscv32imc_predicate.specs.declared.Progress.{Progress}
-use Rattle.riscv32imc_predicate.specs.Setting.{Setting, fixed, Serves, registerCount}
+use Rattle.riscv32imc_predicate.specs.Setting.{Setting, environment, Serves, registerCount}
 use Rattle.riscv32imc_predicate.specs.Coming.{endedBy, Ends, IsAt, Readied}
 use Rattle.riscv32imc_predicate.proofs.LaneCount.{lane-count}
 
@@ -61,7 +61,7 @@ pub record Has (f : Fetched) (pc : ℕ) (r : Progress) : Type 0 where
 module _ (image rows : List ℕ) (bounds : Bounds) (place : Place) where
   -- how the call ends in every state that is there
   abbrev EndsBy : Ending → Type 0
-  EndsBy q = (c : Setting) (symbols : Rv32SymbolLayout) → Serves c (fixed image symbols bounds) → (s : LaneState) → IsAt c image rows place s → Ends c (bounds .pause) q s
+  EndsBy q = (c : Setting) (symbols : Rv32SymbolLayout) → Serves c (environment image symbols bounds) → (s : LaneState) → IsAt c image rows place s → Ends c (bounds .pause) q s
 
   -- without an instruction
   ends : (q : Ending) {r : Progress} → r ≡ endedBy q → EndsBy q → Readied image rows bounds place r

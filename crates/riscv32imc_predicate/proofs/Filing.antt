@@ -21,7 +21,7 @@ use Rattle.predicate_action.specs.declared.Reading.{Reading}
 use Rattle.predicate_action.specs.Reading.{operandOf}
 use Rattle.riscv32imc_predicate.specs.declared.Hint.{Hint}
 use Rattle.riscv32imc_predicate.specs.Setting.{registerCount}
-use Rattle.riscv32imc_predicate.specs.Register.{firstOperand, secondOperand, unread, places, heldWords, Held, startRegisters, value, byLanes, slotOf, operandTold, placeOf, laidOut}
+use Rattle.riscv32imc_predicate.specs.Register.{firstOperand, secondOperand, unread, places, heldWords, Held, startRegisters, byValue, byLanes, slotOf, operandTold, placeOf, laidOut}
 
 -- ---- lists
 
@@ -41,7 +41,7 @@ held-both (suc n) (x ∷ us) [] (suc i) u w = refl
 held-both (suc n) (x ∷ us) (y ∷ ws) zero u w = refl
 held-both (suc n) (x ∷ us) (y ∷ ws) (suc i) u w = ap (λ (l : List LaneWord). wordOf (x .told) y ∷ l) (held-both n us ws i u w)
 
-held-told : (n : ℕ) (us : List Hint) (ws : List LaneWord) (i v : ℕ) → heldWords n (set us i (value v)) ws ≡ set (heldWords n us ws) i (constant lanes v)
+held-told : (n : ℕ) (us : List Hint) (ws : List LaneWord) (i v : ℕ) → heldWords n (set us i (byValue v)) ws ≡ set (heldWords n us ws) i (constant lanes v)
 unfolding heldWords
 held-told zero us ws i v = refl
 held-told (suc n) [] ws i v = refl
@@ -136,9 +136,9 @@ module _ {n : ℕ} {hints : List Hint} {words registers : List LaneWord} (h : He
   set-size rd w = ap length (sym (set-slot rd w)) ∙ length-set registers (slotOf rd) w ∙ h .size
 
   -- a register that is set, by one value
-  pub held-value : (rd v : ℕ) → Held n (set hints (slotOf rd) (value v)) words (assign registers rd (constant lanes v))
+  pub held-value : (rd v : ℕ) → Held n (set hints (slotOf rd) (byValue v)) words (assign registers rd (constant lanes v))
   held-value rd v = record {
-    hints-size = length-set hints (slotOf rd) (value v) ∙ h .hints-size;
+    hints-size = length-set hints (slotOf rd) (byValue v) ∙ h .hints-size;
     words-size = h .words-size;
     sized = h .sized;
     most = h .most;
@@ -215,7 +215,7 @@ unknown-size n = length-replicate n 0
 
 -- x0, x1 and x2 are told by their values
 abbrev pub startHints : List Hint
-startHints = set (set (set (replicate places byLanes) 0 (value 0)) 1 (value stop)) 2 (value stackPointer)
+startHints = set (set (set (replicate places byLanes) 0 (byValue 0)) 1 (byValue stop)) 2 (byValue stackPointer)
 
 pub start-held : (x10 : LaneWord) → length (x10 .values) ≡ lanes → (n : ℕ) → n ≤ registerCount
     → Held n startHints (set (replicate places (unknown lanes)) 10 x10) (startRegisters n x10)

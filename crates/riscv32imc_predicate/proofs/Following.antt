@@ -11,13 +11,13 @@ use Rattle.predicate_semantics.specs.declared.Rv32SymbolLayout.{Rv32SymbolLayou
 use Rattle.predicate_semantics.specs.State.{Effect, recorded}
 use Rattle.predicate_semantics.specs.Tested.{Tested, passed, refused, _>>=_, refuse, require}
 use Rattle.predicate_semantics.specs.Lane.{LaneState, memoryOf, reg}
-use Rattle.predicate_semantics.proofs.Reached.{no-pass}
+use Rattle.predicate_semantics.proofs.Always.{no-pass}
 use Rattle.lane_memory.proofs.Laws.{holds-new}
 use Rattle.lane_access.specs.Seen.{seen}
 use Rattle.lane_access.proofs.Laws.{seen-holds}
 use Rattle.riscv32imc_predicate.specs.declared.Hint.{Hint}
 use Rattle.riscv32imc_predicate.specs.declared.Recorded.{Recorded}
-use Rattle.riscv32imc_predicate.specs.Setting.{Setting, Fixed}
+use Rattle.riscv32imc_predicate.specs.Setting.{Setting, Environment}
 use Rattle.riscv32imc_predicate.specs.Changes.{Given}
 use Rattle.riscv32imc_predicate.specs.Coming.{IsAt}
 use Rattle.riscv32imc_predicate.specs.Tracking.{Machine, Stands, Located, Keeps}
@@ -45,7 +45,7 @@ last-refused (passed x) true f r q = absurd (no-pass (sym q))
 last-refused (passed x) false f r q = cc q
 last-refused (refused x) b f r q = cc q
 
-module _ {c : Setting} {g : Fixed} {m : Machine} {s : LaneState} (h : Stands c g m s) where
+module _ {c : Setting} {g : Environment} {m : Machine} {s : LaneState} (h : Stands c g m s) where
   -- what the code is given
   pub sees : memoryOf (c .program) (c .setup) s ≡ seen (g .image) (m .rows)
   unfolding memoryOf

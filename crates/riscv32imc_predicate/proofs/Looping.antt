@@ -36,10 +36,10 @@ use Rattle.riscv32imc_predicate.specs.declared.Place.{Place}
 use Rattle.riscv32imc_predicate.specs.declared.Progress.{Progress}
 use Rattle.riscv32imc_predicate.specs.declared.Reached.{Reached}
 use Rattle.riscv32imc_predicate.specs.declared.Recorded.{Recorded}
-use Rattle.riscv32imc_predicate.specs.Setting.{Setting, Fixed, registersOf, registerCount}
+use Rattle.riscv32imc_predicate.specs.Setting.{Setting, Environment, registersOf, registerCount}
 use Rattle.riscv32imc_predicate.specs.Changes.{decisionOf, Untold, Suits, Sources}
 use Rattle.riscv32imc_predicate.specs.Coming.{Continues, Ends}
-use Rattle.riscv32imc_predicate.specs.Register.{firstOperand, secondOperand, Held, blank, value, byLanes, slotOf, operandTold, placeOf, laidOut, Stores, LoadsLanes}
+use Rattle.riscv32imc_predicate.specs.Register.{firstOperand, secondOperand, Held, blank, byValue, byLanes, slotOf, operandTold, placeOf, laidOut, Stores, LoadsLanes}
 use Rattle.riscv32imc_predicate.specs.Tracking.{Machine, Stands, Arrives, reachedWith, Located, Decides}
 use Rattle.riscv32imc_predicate.proofs.Filing.{held-source, held-lanes, held-value, held-word, held-laid, laid-read, laid-other, place-apart, operand-word}
 use Rattle.riscv32imc_predicate.proofs.Following.{given, return-word}
@@ -49,31 +49,31 @@ abbrev pub withWords : Machine → List LaneWord → Machine
 withWords m words = record { place = m .place; hints = m .hints; words = words; noted = m .noted; rows = m .rows; trace = m .trace }
 
 -- the loop stands at a state that the run comes to from where the call began
-pub record Looped (c : Setting) (g : Fixed) (s : LaneState) (m : Machine) (word : LaneWord) : Type 0 where
+pub record Looped (c : Setting) (g : Environment) (s : LaneState) (m : Machine) (word : LaneWord) : Type 0 where
   pub state : LaneState
   pub taken : ℕ
   pub came : Lane.after (c .program) (c .setup) taken s ≡ some state
   pub stands : Stands c g m state
   pub size : length (word .values) ≡ lanes
 
-pub looped-start : {c : Setting} {g : Fixed} {s : LaneState} {m : Machine} {word : LaneWord} → length (word .values) ≡ lanes → Stands c g m s → Looped c g s m word
+pub looped-start : {c : Setting} {g : Environment} {s : LaneState} {m : Machine} {word : LaneWord} → length (word .values) ≡ lanes → Stands c g m s → Looped c g s m word
 unfolding Lane.after
 looped-start {s = s} e h = record { state = s; taken = 0; came = refl; stands = h; size = e }
 
 -- what the call then hands back
-pub arrives-as : {c : Setting} {g : Fixed} {s : LaneState} {m : Machine} {word : LaneWord} (i : Looped c g s m word) (b : Machine) → Stands c g b (i .state)
+pub arrives-as : {c : Setting} {g : Environment} {s : LaneState} {m : Machine} {word : LaneWord} (i : Looped c g s m word) (b : Machine) → Stands c g b (i .state)
     → (q : Ending) → Ends c (g .bounds .pause) q (i .state) → {r : Reached} → r ≡ reachedWith (b .place) q (b .noted) (b .words) (b .hints)
     → Arrives c g s r (b .rows) (b .trace)
 arrives-as i b h q e z =
-    rw z (record { state = i .state; taken = i .taken; after = i .came; stands = h; ends = e; return-word = sym (return-word h (value 0) blank) })
+    rw z (record { state = i .state; taken = i .taken; after = i .came; stands = h; ends = e; return-word = sym (return-word h (byValue 0) blank) })
 
 -- ---- the words of a step, by what the loop holds
 
 abbrev pub toldFirst : Progress → Machine → Told
-toldFirst progress m = getD (m .hints) (progress .reading .rs1) (value 0) .told
+toldFirst progress m = getD (m .hints) (progress .reading .rs1) (byValue 0) .told
 
 abbrev pub toldSecond : Progress → Machine → Told
-toldSecond progress m = getD (m .hints) (progress .reading .rs2) (value 0) .told
+toldSecond progress m = getD (m .hints) (progress .reading .rs2) (byValue 0) .told
 
 abbrev pub toldOperand : Progress → Machine → Told
 toldOperand progress m = operandTold (progress .reading) (toldSecond progress m)
@@ -115,9 +115,9 @@ abbrev pub Rests : Machine → Machine → ℕ → Type 0
 Rests a b new = (b .noted ≡ a .noted) × (b .rows ≡ a .rows) × (new ≡ 0)
 
 -- from one machine to another, with the computed word; `new` bytes get an address
-abbrev pub Applied : Fixed → Progress → LaneWord → Change → Machine → Machine → ℕ → Type 0
+abbrev pub Applied : Environment → Progress → LaneWord → Change → Machine → Machine → ℕ → Type 0
 Applied g progress word change.Nothing a b new = (b .hints ≡ a .hints) × (b .words ≡ a .words) × Rests a b new
-Applied g progress word (change.Sets rd z) a b new = (b .hints ≡ set (a .hints) (slotOf rd) (value z)) × (b .words ≡ a .words) × Rests a b new
+Applied g progress word (change.Sets rd z) a b new = (b .hints ≡ set (a .hints) (slotOf rd) (byValue z)) × (b .words ≡ a .words) × Rests a b new
 Applied g progress word (change.Computes rd) a b new =
     (b .hints ≡ set (a .hints) (slotOf rd) byLanes) × (b .words ≡ set (a .words) (slotOf rd) word) × Rests a b new
 Applied g progress word (change.Loads rd at n e) a b new =
@@ -128,7 +128,7 @@ Applied g progress word (change.Stores at n) a b new =
     × Located (a .noted) (a .place .pc) at n (g .symbols .«event_count») (b .noted)
 
 -- the rows stay as many, whatever is stored
-pub applied-rows : (g : Fixed) (progress : Progress) (word : LaneWord) (x : Change) (a b : Machine) (new : ℕ) → Applied g progress word x a b new
+pub applied-rows : (g : Environment) (progress : Progress) (word : LaneWord) (x : Change) (a b : Machine) (new : ℕ) → Applied g progress word x a b new
     → cleared (b .rows) ≡ cleared (a .rows)
 applied-rows g progress word change.Nothing a b new h = ap cleared (h .2 .1)
 applied-rows g progress word (change.Sets rd z) a b new h = ap cleared (h .2 .1)
@@ -147,7 +147,7 @@ fewer-left {m} o h s = omega (arith, ap (λ (x : Place). x .steps) (o .moves) �
 
 -- ---- a turn, from a fetched instruction
 
-module _ {c : Setting} {g : Fixed} {s : LaneState} {m : Machine} {word : LaneWord} (i : Looped c g s m word) {progress : Progress} (k : Continues c progress (i .state)) where
+module _ {c : Setting} {g : Environment} {s : LaneState} {m : Machine} {word : LaneWord} (i : Looped c g s m word) {progress : Progress} (k : Continues c progress (i .state)) where
   abbrev n : ℕ
   n = registersOf c
 
@@ -161,9 +161,9 @@ module _ {c : Setting} {g : Fixed} {s : LaneState} {m : Machine} {word : LaneWor
   most : n ≤ registerCount
   most = i .stands .held .most
 
-  source : (j : ℕ) → j < n → reg (c .program) (c .setup) (i .state) j ≡ wordOf (getD (m .hints) j (value 0) .told) (getD (m .words) j blank)
+  source : (j : ℕ) → j < n → reg (c .program) (c .setup) (i .state) j ≡ wordOf (getD (m .hints) j (byValue 0) .told) (getD (m .words) j blank)
   unfolding reg
-  source j h = held-source (i .stands .held) j _ (value 0) blank h
+  source j h = held-source (i .stands .held) j _ (byValue 0) blank h
 
   size₁ : length (wordFirst progress m .values) ≡ lanes
   size₁ = word-size (toldFirst progress m) _ (held-lanes (i .stands .held) (progress .reading .rs1) blank (omega (arith, sources .0, most)))
@@ -238,8 +238,8 @@ module _ {c : Setting} {g : Fixed} {s : LaneState} {m : Machine} {word : LaneWor
     -- the second source's word is still there
     second-now : wordSecond progress (withWords m words) ≡ wordSecond progress m
     second-now =
-        sym (held-source (j .keeps) (progress .reading .rs2) (unknown lanes) (value 0) blank (sources .1))
-        ∙ held-source (i .stands .held) (progress .reading .rs2) (unknown lanes) (value 0) blank (sources .1)
+        sym (held-source (j .keeps) (progress .reading .rs2) (unknown lanes) (byValue 0) blank (sources .1))
+        ∙ held-source (i .stands .held) (progress .reading .rs2) (unknown lanes) (byValue 0) blank (sources .1)
 
     decided : (d : Decision) → Decides (g .image) (m .rows) progress (m .place) tested (g .bounds .entries) d
         → Decided c g m progress (i .state) (resultOf progress m) (wordSecond progress m) d

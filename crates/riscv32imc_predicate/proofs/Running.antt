@@ -19,16 +19,15 @@ use Rattle.predicate_answer.specs.declared.Rv32Error.{Rv32Error}
 use Rattle.predicate_answer.specs.Refusal.{Refusal, refusalOf}
 use Rattle.predicate_answer.specs.Blank.{maxEvents, noEvents}
 use Rattle.predicate_semantics.specs.declared.Rv32SymbolLayout.{Rv32SymbolLayout}
-use Rattle.predicate_semantics.specs.Choice.{choose}
 use Rattle.predicate_semantics.specs.Program.{stop, stopWord, eventStride, memoryEnd, imageEnd, sized, symbolsPlaced, inMemory}
 use Rattle.predicate_semantics.specs.State.{Result}
-use Rattle.predicate_semantics.specs.Memory.{put, write}
 use Rattle.predicate_semantics.specs.Tested.{Tested, passed, refused, _>>=_, refuse, require}
 use Rattle.predicate_semantics.specs.Lane.{LaneState, Ended, laneCount, on, run, begin, startTests, start, laneRun, laneOperations, writtenBytes, execution, finish}
 use Rattle.predicate_semantics.specs.Kept.{Kept}
+use Rattle.predicate_semantics.proofs.Always.{no-pass}
 use Rattle.predicate_semantics.proofs.Laws.{run-stop}
-use Rattle.predicate_semantics.proofs.RecordRules.{kept-start, events-located}
-use Rattle.predicate_semantics.proofs.Reached.{no-pass, run-after, steps-after}
+use Rattle.predicate_semantics.proofs.RecordRules.{four, kept-start, events-located}
+use Rattle.predicate_semantics.proofs.Reached.{run-after, steps-after}
 use Rattle.predicate_trace.specs.Trace.{putEntries}
 use Rattle.lane_memory.specs.Rows.{rowCount, storeValues, cleared}
 use Rattle.lane_memory.specs.Holds.{Holds}
@@ -42,11 +41,11 @@ use Rattle.riscv32imc_predicate.specs.declared.Registers.{Registers}
 use Rattle.riscv32imc_predicate.specs.declared.Reached.{Reached}
 use Rattle.riscv32imc_predicate.specs.declared.PredicateAnswer.the-variants as answer
 use Rattle.riscv32imc_predicate.specs.declared.PredicateRun.{PredicateRun}
-use Rattle.riscv32imc_predicate.specs.Setting.{Setting, Fixed, fixed, firstState, rest, registersOf}
+use Rattle.riscv32imc_predicate.specs.Setting.{Setting, Environment, environment, firstState, rest, registersOf}
 use Rattle.riscv32imc_predicate.specs.Coming.{Ends}
 use Rattle.riscv32imc_predicate.specs.Register.{Held, StartsWith}
 use Rattle.riscv32imc_predicate.specs.Tracking.{machine, Stands, Arrives, startPlace, startRecorded}
-use Rattle.riscv32imc_predicate.specs.Reporting.{refusedRun, Reports, Counts, Begins, whole, never, wholeRun, Calls, Runs}
+use Rattle.riscv32imc_predicate.specs.Reporting.{refusedRun, Reports, Counts, InputsFrom, whole, never, wholeRun, Calls, Runs}
 use Rattle.riscv32imc_predicate.proofs.LaneCount.{lane-count}
 
 pub off : (b : Bool) → not b ≡ true → b ≡ false
@@ -83,7 +82,7 @@ module _ (c : Setting) (s : LaneState) where
       → {r : PredicateRun} → r ≡ refusedRun x k → Reports c s t r
   reports-refused t x k e q h = rw (q, h) (record { says = refl; completed = e; numbers = refl; found = refl })
 
-  module _ {first : ℕ} {place : Place} {noted : Recorded} (b : Begins c first) (at : Counts place noted s) where
+  module _ {first : ℕ} {place : Place} {noted : Recorded} (b : InputsFrom c first) (at : Counts place noted s) where
     numbers-are : (value : ℕ) (found : List CompiledMmioEvent) → length found ≡ length (s .locations) → length found ≤ maxEvents
         → numbersOf first place noted value ≡ execution (c .program) (c .setup) s (resultAt s value found)
     unfolding execution laneOperations writtenBytes
@@ -107,11 +106,6 @@ module _ (c : Setting) (s : LaneState) where
         })
 
 -- ---- before any step
-
--- the stop word's four bytes
-four : (w : LaneWord) → 4 ≡ length (write [] 4 stop w)
-unfolding write put choose
-four w = refl
 
 and-right : (a b : Bool) → (a && b) ≡ true → b ≡ true
 and-right true b q = q
@@ -138,8 +132,8 @@ events-low size symbols n h =
 module _ {c : Setting} {image : List ℕ} {symbols : Rv32SymbolLayout} {first : ℕ} {x10 : LaneWord} {limit : ℕ} {rows trace : List ℕ}
     (k : Calls c image symbols first x10 limit rows trace) where
   -- what the loop is given
-  abbrev pub loopFixed : Fixed
-  loopFixed = fixed image symbols (wholeRun limit trace)
+  abbrev pub loopEnvironment : Environment
+  loopEnvironment = environment image symbols (wholeRun limit trace)
 
   -- the tests before any step are the setting's
   same-tests : (t : Tested (Unit {0})) → startTests (length image) symbols (passed tt) (rowCount rows) ≡ t
@@ -172,7 +166,7 @@ module _ {c : Setting} {image : List ℕ} {symbols : Rv32SymbolLayout} {first : 
 
     -- the stop word is stored
     pub begin-stands : Holds rows (rowCount rows) [] → {rows′ : List ℕ} → rows′ ≡ storeValues rows 4 stop stopWord → {place : Place} → place ≡ startPlace (symbols .entry)
-        → {r : Registers} → StartsWith x10 r → {noted : Recorded} → noted ≡ startRecorded → Stands c loopFixed (machine place r noted rows′ trace) (firstState c)
+        → {r : Registers} → StartsWith x10 r → {noted : Recorded} → noted ≡ startRecorded → Stands c loopEnvironment (machine place r noted rows′ trace) (firstState c)
     unfolding begin putEntries
     begin-stands j {rows′} e {place} p {r} w {noted} n =
         let b : Holds rows (c .setup .rows) [] = rw (k .same-rows) j in
@@ -185,7 +179,7 @@ module _ {c : Setting} {image : List ℕ} {symbols : Rv32SymbolLayout} {first : 
             bounded = omega arith;
             holds = rw (lane-count c (k .serves .same-lanes)) (holds-store-value b 4 stop stopWord (omega arith) (rw (lane-count c (k .serves .same-lanes)) at (kept-first .stored .most)));
             above = above-write (imageEnd (c .program)) 4 stop (constant (laneCount (c .program) (c .setup)) stopWord) [] (omega (arith, kept-first .fits .1)) tt;
-            same-written = four (constant (laneCount (c .program) (c .setup)) stopWord);
+            same-written = sym (four (constant (laneCount (c .program) (c .setup)) stopWord));
             traced = sym (k .same-lent);
           };
           keeps = (refl, refl);
@@ -193,7 +187,7 @@ module _ {c : Setting} {image : List ℕ} {symbols : Rv32SymbolLayout} {first : 
         })
 
     -- ---- where the loop ended
-    module _ {q : Reached} {rows′ trace′ : List ℕ} (a : Arrives c loopFixed (firstState c) q rows′ trace′) where
+    module _ {q : Reached} {rows′ trace′ : List ℕ} (a : Arrives c loopEnvironment (firstState c) q rows′ trace′) where
       arrived-rest : whole c ≡ rest c (a .state)
       unfolding begin
       arrived-rest =

@@ -36,7 +36,7 @@ use Rattle.riscv32imc_predicate.specs.declared.Ending.the-variants as en
 use Rattle.riscv32imc_predicate.specs.declared.Place.{Place}
 use Rattle.riscv32imc_predicate.specs.declared.Progress.{Progress}
 use Rattle.riscv32imc_predicate.specs.declared.Recorded.{Recorded}
-use Rattle.riscv32imc_predicate.specs.Setting.{Setting, Fixed}
+use Rattle.riscv32imc_predicate.specs.Setting.{Setting, Environment}
 use Rattle.riscv32imc_predicate.specs.Changes.{decisionOf, lastTested}
 use Rattle.riscv32imc_predicate.specs.Coming.{Continues, Ends}
 use Rattle.riscv32imc_predicate.specs.Register.{Stores}
@@ -84,7 +84,7 @@ pub record Completes (m : Machine) (progress : Progress) (next new : ℕ) (place
 -- ---- from a state with a fetched instruction
 
 -- what the step comes to, as the code decides, with the computed word and the second source's
-abbrev pub Decided : Setting → Fixed → Machine → Progress → LaneState → LaneWord → LaneWord → Decision → Type 0
+abbrev pub Decided : Setting → Environment → Machine → Progress → LaneState → LaneWord → LaneWord → Decision → Type 0
 Decided c g m progress s w x y =
     decisionOf (seen (g .image) (m .rows)) w x y
     ≡ lastTested (execute (c .program) (c .setup) s (add (m .place .pc) (progress .length)) (progress .action)) (m .place .steps) (g .bounds .entries)
@@ -107,7 +107,7 @@ step-is c s f q = rw q (go (operates c s f))
     go (passed e) = refl
     go (refused r) = refl
 
-module _ {c : Setting} {g : Fixed} {m : Machine} {progress : Progress} {s : LaneState} (h : Stands c g m s) (k : Continues c progress s) where
+module _ {c : Setting} {g : Environment} {m : Machine} {progress : Progress} {s : LaneState} (h : Stands c g m s) (k : Continues c progress s) where
   abbrev f : Fetched
   f = k .instruction
 

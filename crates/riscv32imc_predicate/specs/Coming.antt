@@ -23,7 +23,7 @@ use Rattle.riscv32imc_predicate.specs.declared.Ending.the-variants as en
 use Rattle.riscv32imc_predicate.specs.declared.Progress.{Progress}
 use Rattle.riscv32imc_predicate.specs.declared.ready.Instruction.{Instruction}
 use Rattle.riscv32imc_predicate.specs.declared.ready.Instruction.the-variants as instruction
-use Rattle.riscv32imc_predicate.specs.Setting.{Setting, fixed, Serves, registerCount, rest}
+use Rattle.riscv32imc_predicate.specs.Setting.{Setting, environment, Serves, registerCount, rest}
 
 -- what is fetched at a pc by every core that is in force there, and its action
 abbrev pub FetchesAs : List ℕ → List ℕ → ℕ → Instruction → Type 0
@@ -68,7 +68,7 @@ module _ (c : Setting) where
 
 -- what comes at a place, in every state that is there; a step below the limit, which reads places that there are
 pub record Readied (image rows : List ℕ) (bounds : Bounds) (place : Place) (r : Progress) : Type 0 where
-  pub comes : (c : Setting) (symbols : Rv32SymbolLayout) → Serves c (fixed image symbols bounds) → (s : LaneState) → IsAt c image rows place s
+  pub comes : (c : Setting) (symbols : Rv32SymbolLayout) → Serves c (environment image symbols bounds) → (s : LaneState) → IsAt c image rows place s
       → Comes c (bounds .pause) (r .more) r s
   pub below : r .more ≡ true → place .steps < bounds .limit
   pub reads : ReadsBelow registerCount (r .reading)

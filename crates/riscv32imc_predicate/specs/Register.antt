@@ -64,8 +64,8 @@ abbrev pub blank : LaneWord
 blank = record { values = []; known = false }
 
 -- a word that one value tells, and one that its lanes do
-abbrev pub value : ℕ → Hint
-value v = record { told = Value v }
+abbrev pub byValue : ℕ → Hint
+byValue v = record { told = Value v }
 
 abbrev pub byLanes : Hint
 byLanes = record { told = Lanes }

@@ -23,7 +23,7 @@ use Rattle.riscv32imc_predicate.specs.declared.PredicateAnswer.{Predicat
 use Rattle.riscv32imc_predicate.specs.declared.PredicateAnswer.the-variants as answer
 use Rattle.riscv32imc_predicate.specs.declared.PredicateRun.{PredicateRun}
 use Rattle.riscv32imc_predicate.specs.Outcome.{eventsIn}
-use Rattle.riscv32imc_predicate.specs.Setting.{Setting, fixed, Serves}
+use Rattle.riscv32imc_predicate.specs.Setting.{Setting, environment, Serves}
 use Rattle.riscv32imc_predicate.specs.Finishing.{Answers}
 
 -- a refusal, with the completed steps
@@ -55,14 +55,14 @@ pub record Counts (place : Place) (noted : Recorded) (s : LaneState) : Type 0 wh
   pub same-count : noted .count ≡ length (s .locations)
 
 -- a setting's inputs: which is first, and that there is a lane for each
-pub record Begins (c : Setting) (first : ℕ) : Type 0 where
+pub record InputsFrom (c : Setting) (first : ℕ) : Type 0 where
   pub same-first : getD (c .setup .inputs) 0 0 ≡ first
   pub same-lanes : length (c .setup .inputs) ≡ lanes
 
 -- the answer at stop, reported for every state there
 abbrev pub Answered : ℕ → Place → Recorded → Finished → PredicateRun → Type 0
 Answered first place noted finished r =
-    (c : Setting) (s : LaneState) → Begins c first → Counts place noted s
+    (c : Setting) (s : LaneState) → InputsFrom c first → Counts place noted s
     → Answers (finished .verdict) (finished .«return_value») (finished .events) s (finish (c .program) (c .setup) s)
     → Reports c s (finish (c .program) (c .setup) s) r
 
@@ -80,8 +80,8 @@ whole c = laneRun (c .program) (c .setup) (c .limit)
 
 -- what the run is called with is a setting's
 pub record Calls (c : Setting) (image : List ℕ) (symbols : Rv32SymbolLayout) (first : ℕ) (x10 : LaneWord) (limit : ℕ) (rows trace : List ℕ) : Type 0 where
-  pub serves : Serves c (fixed image symbols (wholeRun limit trace))
-  pub begins : Begins c first
+  pub serves : Serves c (environment image symbols (wholeRun limit trace))
+  pub inputs : InputsFrom c first
   pub same-domain : domain (c .setup .inputs) ≡ x10
   pub same-choice : c .setup .choice ≡ passed tt
   pub same-rows : c .setup .rows ≡ rowCount rows

@@ -38,17 +38,17 @@ abbrev pub registerCount : ℕ
 registerCount = 32
 
 -- what a call of the loop is given and does not change
-pub record Fixed : Type 0 where
+pub record Environment : Type 0 where
   pub image : List ℕ
   pub symbols : Rv32SymbolLayout
   pub bounds : Bounds
 
-abbrev pub fixed : List ℕ → Rv32SymbolLayout → Bounds → Fixed
-fixed image symbols bounds = record { image = image; symbols = symbols; bounds = bounds }
+abbrev pub environment : List ℕ → Rv32SymbolLayout → Bounds → Environment
+environment image symbols bounds = record { image = image; symbols = symbols; bounds = bounds }
 
 -- that is a setting's: its image and symbols, its limit and entries, words of as many lanes as inputs, the table in force after any
 -- number of steps, and registers that the code has places for
-pub record Serves (c : Setting) (g : Fixed) : Type 0 where
+pub record Serves (c : Setting) (g : Environment) : Type 0 where
   pub same-image : c .program .image ≡ g .image
   pub same-symbols : c .program .symbols ≡ g .symbols
   pub same-limit : c .limit ≡ g .bounds .limit

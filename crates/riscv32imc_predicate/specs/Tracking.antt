@@ -28,10 +28,10 @@ use Rattle.riscv32imc_predicate.specs.declared.Registers.{Registers}
 use Rattle.riscv32imc_predicate.specs.declared.Progress.{Progress}
 use Rattle.riscv32imc_predicate.specs.declared.Decision.{Decision}
 use Rattle.riscv32imc_predicate.specs.declared.Reached.{Reached}
-use Rattle.riscv32imc_predicate.specs.Setting.{Setting, Fixed, Serves, registersOf}
+use Rattle.riscv32imc_predicate.specs.Setting.{Setting, Environment, Serves, registersOf}
 use Rattle.riscv32imc_predicate.specs.Changes.{decisionOf, lastTested, Suits, Given, Sources}
 use Rattle.riscv32imc_predicate.specs.Coming.{Ends}
-use Rattle.riscv32imc_predicate.specs.Register.{Held, blank, value}
+use Rattle.riscv32imc_predicate.specs.Register.{Held, blank, byValue}
 
 -- the first locations are kept, all of them counted
 abbrev pub Keeps : Recorded → List ℕ → Type 0
@@ -70,7 +70,7 @@ machine place registers noted rows trace = record {
 }
 
 -- the code stands at a state of a setting
-pub record Stands (c : Setting) (g : Fixed) (m : Machine) (s : LaneState) : Type 0 where
+pub record Stands (c : Setting) (g : Environment) (m : Machine) (s : LaneState) : Type 0 where
   pub serves : Serves c g
   pub tracks : Tracks c (m .place) (m .rows) (m .trace) s
   pub keeps : Keeps (m .noted) (s .locations)
@@ -84,11 +84,11 @@ reachedWith place ending noted words hints = record {
   recorded = noted;
   words = words;
   hints = hints;
-  x10 = wordOf (getD hints 10 (value 0) .told) (getD words 10 blank);
+  x10 = wordOf (getD hints 10 (byValue 0) .told) (getD words 10 blank);
 }
 
 -- where the call ends: some completed steps on, and standing there
-pub record Arrives (c : Setting) (g : Fixed) (s : LaneState) (r : Reached) (rows trace : List ℕ) : Type 0 where
+pub record Arrives (c : Setting) (g : Environment) (s : LaneState) (r : Reached) (rows trace : List ℕ) : Type 0 where
   pub state : LaneState
   pub taken : ℕ
   pub after : Lane.after (c .program) (c .setup) taken s ≡ some state
@@ -97,7 +97,7 @@ pub record Arrives (c : Setting) (g : Fixed) (s : LaneState) (r : Reached) (rows
   pub return-word : r .x10 ≡ reg (c .program) (c .setup) state 10
 
 -- from every state of every setting at which the code stands when it is called
-abbrev pub Advances : Fixed → Machine → Reached → List ℕ → List ℕ → Type 0
+abbrev pub Advances : Environment → Machine → Reached → List ℕ → List ℕ → Type 0
 Advances g m r rows trace = (c : Setting) (s : LaneState) → Stands c g m s → Arrives c g s r rows trace
 
 -- ---- the parts of a step

@@ -33,7 +33,7 @@ ghost use Rattle.rv32_arithmetic.specs.Value.{valueOf};
 ghost use Rattle.lane_word.specs.Word.{unary, binary, constant, lanes};
 ghost use Rattle.predicate_action.specs.Meaning.{extensionOf};
 ghost use Rattle.lane_memory.specs.Rows.{cleared};
-ghost use Rattle.riscv32imc_predicate.specs.Setting.{fixed};
+ghost use Rattle.riscv32imc_predicate.specs.Setting.{environment};
 ghost use Rattle.riscv32imc_predicate.specs.Tracking.{machine, reachedWith, Advances};
 ghost use Rattle.riscv32imc_predicate.specs.Register.{slotOf, placeOf, operandTold, Stores, LoadsLanes};
 
@@ -171,7 +171,7 @@ pub fn advance(
     trace: &mut [u8],
     bounds: Bounds,
 ) -> Reached
-    ensures { λ r. ⌜ Advances (fixed (now (image .entry)) symbols bounds) (machine first start kept (now (rows .entry)) (now (trace .entry))) r (now (rows .exit)) (now (trace .exit)) ⌝ }
+    ensures { λ r. ⌜ Advances (environment (now (image .entry)) symbols bounds) (machine first start kept (now (rows .entry)) (now (trace .entry))) r (now (rows .exit)) (now (trace .exit)) ⌝ }
     ensures { λ r. ⌜ cleared (now (rows .exit)) ≡ cleared (now (rows .entry)) ⌝ }
 {
     let mut words = start.words;

@@ -1,8 +1,10 @@
 // What the test programs share: numbers and bytes from standard input, text and numbers to standard output, and comparisons.
 use little_endian::get_u8;
 use little_endian::get_u32;
-ghost use Prim.Native.Nat.{_≤_};
-ghost use lib.ListN.{length};
+ghost use mathlib.Core.Path.{_≡_};
+ghost use Prim.Native.Nat.{_-_, _≤_};
+ghost use lib.ListN.{length, replicate};
+ghost use Rattle.test_support.specs.Unlike.{difference, unlikeBytes};
 
 // The next number, 4 bytes from the lowest up; 0 past the end. No contract can say what is read.
 pub fn next() -> u32 {
@@ -56,13 +58,16 @@ pub fn end_line() {
 
 // 1 where two numbers differ, else 0.
 pub fn differs(a: u32, b: u32) -> u64
+    ensures { λ r. ⌜ r ≡ difference a b ⌝ }
     ensures { λ r. ⌜ r ≤ 1 ⌝ }
 {
     if a == b { 0 } else { 1 }
 }
 
 // How many of the bytes from one place up to another are not `byte`.
-pub fn unlike(memory: &[u8], from: usize, end: usize, byte: u8) -> u64 {
+pub fn unlike(memory: &[u8], from: usize, end: usize, byte: u8) -> u64
+    ensures { λ r. ⌜ r ≡ unlikeBytes (now (memory .entry)) byte from (end - from) ⌝ }
+{
     let mut count: u64 = 0;
     let mut k = from;
     while k < end {
@@ -73,7 +78,9 @@ pub fn unlike(memory: &[u8], from: usize, end: usize, byte: u8) -> u64 {
 }
 
 // Every byte set to `byte`.
-pub fn fill(memory: &mut [u8], byte: u8) {
+pub fn fill(memory: &mut [u8], byte: u8)
+    ensures { λ r. ⌜ now (memory .exit) ≡ replicate (length (now (memory .entry))) byte ⌝ }
+{
     let mut k: usize = 0;
     while k < memory.len() {
         memory[k] = byte;

@@ -13,11 +13,11 @@ use Rattle.lane_memory.specs.Rows.{rowCount, cleared}
 use Rattle.lane_memory.proofs.Laws.{cleared-store-value}
 use Rattle.lane_access.specs.Answers.{verdictOf}
 use Rattle.riscv32imc_predicate.specs.declared.Bounds.{Bounds}
-use Rattle.riscv32imc_predicate.specs.Setting.{Setting, fixed, firstState}
+use Rattle.riscv32imc_predicate.specs.Setting.{Setting, environment, firstState}
 use Rattle.riscv32imc_predicate.specs.Tracking.{Machine, machine, Stands, Arrives}
 use Rattle.riscv32imc_predicate.specs.Reporting.{Calls}
 use Rattle.riscv32imc_predicate.proofs.Following.{sees}
-use Rattle.riscv32imc_predicate.proofs.Running.{run-refused-first, reports-refused, loopFixed, begin-stands, runs-as, ended-refused, ended-arrived, never-paused, counts, events-low}
+use Rattle.riscv32imc_predicate.proofs.Running.{run-refused-first, reports-refused, loopEnvironment, begin-stands, runs-as, ended-refused, ended-arrived, never-paused, counts, events-low}
 use Rattle.riscv32imc_predicate.proofs.outcome.run.Statement.{statement}
 use Rattle.riscv32imc_predicate.proofs.outcome.run.Tie as tie
 
@@ -63,12 +63,12 @@ module _ (k : tie.After-advance) where
   abbrev first : Machine
   first = machine (placed .start-place .result) (recorded .before .start-registers .result) (recorded .start-recorded .result) (stored .store-value .last .0) (now (start told .args .trace))
 
-  reaches : (x : Setting) (s : CallsAt (start told) x) → Arrives x (loopFixed s) (firstState x) (k .advance .result) rows′ (k .advance .last .1 .1 .1 .1 .1 .1 .0)
+  reaches : (x : Setting) (s : CallsAt (start told) x) → Arrives x (loopEnvironment s) (firstState x) (k .advance .result) rows′ (k .advance .last .1 .1 .1 .1 .1 .1 .0)
   reaches x s =
       let a = start told .args in
-      subst (λ (b : Bounds). Arrives x (fixed (now (a .image)) (a .symbols) b) (firstState x) (k .advance .result) rows′ (k .advance .last .1 .1 .1 .1 .1 .1 .0)) (placed .before .whole-run .ensures)
+      subst (λ (b : Bounds). Arrives x (environment (now (a .image)) (a .symbols) b) (firstState x) (k .advance .result) rows′ (k .advance .last .1 .1 .1 .1 .1 .1 .0)) (placed .before .whole-run .ensures)
       (k .advance .ensures .0 x (firstState x)
-      (subst (λ (b : Bounds). Stands x (fixed (now (a .image)) (a .symbols) b) first (firstState x)) (sym (placed .before .whole-run .ensures))
+      (subst (λ (b : Bounds). Stands x (environment (now (a .image)) (a .symbols) b) first (firstState x)) (sym (placed .before .whole-run .ensures))
       (begin-stands s (passes told) (start told .pre) (stored .store-value .ensures) (placed .start-place .ensures)
       (recorded .before .start-registers .ensures) (recorded .start-recorded .ensures))))
 
@@ -138,4 +138,4 @@ run-spec =
     (record { same-lanes = s .serves .same-lanes; same-symbols = s .serves .same-symbols; same-bytes = sees (a .stands); keeps = a .stands .keeps })
     (sym (a .return-word)) in
     runs-as s (ended-arrived s (passes (told k)) a (f .before .before .before .enum-told3 .given .1))
-    (c .answered .ensures x (a .state) (s .begins) (counts s (passes (told k)) a) r) (a .stands .tracks .traced) (same-rows k)))
+    (c .answered .ensures x (a .state) (s .inputs) (counts s (passes (told k)) a) r) (a .stands .tracks .traced) (same-rows k)))

@@ -22,10 +22,10 @@ use Rattle.riscv32imc_predicate.specs.declared.Hint.{Hint}
 use Rattle.riscv32imc_predicate.specs.declared.Place.{Place}
 use Rattle.riscv32imc_predicate.specs.declared.Progress.{Progress}
 use Rattle.riscv32imc_predicate.specs.declared.Recorded.{Recorded}
-use Rattle.riscv32imc_predicate.specs.Setting.{Setting, Fixed, fixed, registerCount}
+use Rattle.riscv32imc_predicate.specs.Setting.{Setting, Environment, environment, registerCount}
 use Rattle.riscv32imc_predicate.specs.Changes.{Suits}
 use Rattle.riscv32imc_predicate.specs.Coming.{Continues, Comes}
-use Rattle.riscv32imc_predicate.specs.Register.{firstOperand, secondOperand, places, placeOf, laidOut, blank, value, byLanes}
+use Rattle.riscv32imc_predicate.specs.Register.{firstOperand, secondOperand, places, placeOf, laidOut, blank, byValue, byLanes}
 use Rattle.riscv32imc_predicate.specs.Tracking.{Machine, Stands, Decides, Located}
 use Rattle.riscv32imc_predicate.proofs.Filing.{unknown-size, place-below, slot-below}
 use Rattle.riscv32imc_predicate.proofs.Following.{is-at}
@@ -43,8 +43,8 @@ abbrev I : tie.InvT-loop
 I image symbols rows₀ trace₀ bounds words₀ hints₀ computed₀ recorded₀ place₀ rows trace words hints computed recorded place =
     (cleared rows ≡ cleared rows₀)
     × (length trace ≡ length trace₀)
-    × ((c : Setting) (s : LaneState) → Stands c (fixed image symbols bounds) (machineOf place₀ hints₀ words₀ recorded₀ rows₀ trace₀) s
-    → Looped c (fixed image symbols bounds) s (machineOf place hints words recorded rows trace) computed)
+    × ((c : Setting) (s : LaneState) → Stands c (environment image symbols bounds) (machineOf place₀ hints₀ words₀ recorded₀ rows₀ trace₀) s
+    → Looped c (environment image symbols bounds) s (machineOf place hints words recorded rows trace) computed)
 
 abbrev μ : tie.MeasureT-loop
 μ image symbols rows₀ trace₀ bounds words₀ hints₀ computed₀ recorded₀ place₀ rows trace words hints computed recorded place = bounds .limit - place .steps
@@ -54,8 +54,8 @@ module _ (k : tie.At-loop I μ) where
   abbrev start-of : tie.Start I μ
   start-of = k .before .before .before .before .before .before .before
 
-  abbrev g : Fixed
-  g = fixed (now (start-of .args .image)) (start-of .args .symbols) (start-of .args .bounds)
+  abbrev g : Environment
+  g = environment (now (start-of .args .image)) (start-of .args .symbols) (start-of .args .bounds)
 
   abbrev held : Machine
   held = machineOf (k .loop .place) (k .loop .hints) (k .loop .words) (k .loop .recorded) (k .loop .rows) (k .loop .trace)
@@ -226,7 +226,7 @@ module _ (d : tie.At-match5-came I μ) where
   made =
       ⊎-elim (λ w. making (w .1 .given .1) (λ p t. (w .4, w .3, (w .5, w .2, w .6))))
       (⊎-elim
-      (λ w. making (w .1 .given .1) (λ p t. (w .6 ∙ ap (λ (n : ℕ). set (before₁ .hints) n (value (w .1 .given .0 .1 .0))) (w .3 .ensures), w .5, (w .7, w .4, w .8))))
+      (λ w. making (w .1 .given .1) (λ p t. (w .6 ∙ ap (λ (n : ℕ). set (before₁ .hints) n (byValue (w .1 .given .0 .1 .0))) (w .3 .ensures), w .5, (w .7, w .4, w .8))))
       (⊎-elim
       (λ w. making (w .1 .given .1) (λ p t. (
         w .6 ∙ ap (λ (n : ℕ). set (before₁ .hints) n byLanes) (w .3 .ensures),

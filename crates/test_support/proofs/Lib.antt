@@ -1,0 +1,2 @@
+-- Laws that the answers for the functions cite.
+mod Laws

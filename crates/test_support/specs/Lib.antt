@@ -1,0 +1,2 @@
+-- What the comparisons of the test programs count.
+pub mod Unlike
