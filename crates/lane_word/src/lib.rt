@@ -2,7 +2,7 @@
 ghost use mathlib.Core.Path.{_≡_};
 ghost use mathlib.Core.Bool.{_&&_};
 ghost use lib.ListN.{length};
-ghost use Rattle.rv32_arithmetic.specs.Arithmetic.{add, sub, sll, srl, sra, slt, sltu, and, or, xor, mul, div, divu, rem, remu, beq, bne, bge, bgeu, target};
+ghost use Rattle.rv32_arithmetic.specs.Arithmetic.{add, sub, sll, srl, sra, slt, sltu, and, or, xor, mul, mulh, mulhsu, mulhu, div, divu, rem, remu, beq, bne, bge, bgeu, target};
 ghost use Rattle.rv32_arithmetic.specs.Bits.{signExtend};
 ghost use Rattle.rv32_arithmetic.specs.Value.{valueOf};
 ghost use Rattle.lane_word.specs.Word.{firstInput, lanes, unknown, constant, domain, inputs, zip, unary, binary, uniformOf};
@@ -229,6 +229,24 @@ impl LaneWord {
         ensures { λ r. ⌜ r ≡ binary mul self right ⌝ }
     {
         self.map_binary(right, Binary::Mul)
+    }
+
+    pub fn mulh(self, right: LaneWord) -> LaneWord
+        ensures { λ r. ⌜ r ≡ binary mulh self right ⌝ }
+    {
+        self.map_binary(right, Binary::Mulh)
+    }
+
+    pub fn mulhsu(self, right: LaneWord) -> LaneWord
+        ensures { λ r. ⌜ r ≡ binary mulhsu self right ⌝ }
+    {
+        self.map_binary(right, Binary::Mulhsu)
+    }
+
+    pub fn mulhu(self, right: LaneWord) -> LaneWord
+        ensures { λ r. ⌜ r ≡ binary mulhu self right ⌝ }
+    {
+        self.map_binary(right, Binary::Mulhu)
     }
 
     pub fn div(self, right: LaneWord) -> LaneWord

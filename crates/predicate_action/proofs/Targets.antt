@@ -65,3 +65,6 @@ meaning-leads (operation.Rem v) pc = tt
 meaning-leads (operation.Remu v) pc = tt
 meaning-leads operation.Fence pc = tt
 meaning-leads operation.FenceI pc = tt
+meaning-leads (operation.Mulh v) pc = tt
+meaning-leads (operation.Mulhsu v) pc = tt
+meaning-leads (operation.Mulhu v) pc = tt

@@ -1,6 +1,6 @@
--- What each of the 44 operations does, from the manual (RV32I, M and Zifencei): a form that both runs carry out on their own values.
+-- What each of the 47 operations does, from the manual (RV32I, M and Zifencei): a form that both runs carry out on their own values.
 use Prim.Native.Nat.{ℕ}
-use Rattle.rv32_arithmetic.specs.declared.Binary.the-variants.{Add, Sub, Sll, Slt, Sltu, Xor, Srl, Sra, Or, And, Mul, Div, Divu, Rem, Remu, Eq, Ne, Ge, Geu}
+use Rattle.rv32_arithmetic.specs.declared.Binary.the-variants.{Add, Sub, Sll, Slt, Sltu, Xor, Srl, Sra, Or, And, Mul, Mulh, Mulhsu, Mulhu, Div, Divu, Rem, Remu, Eq, Ne, Ge, Geu}
 use Rattle.rv32_arithmetic.specs.Arithmetic.{add}
 use Rattle.rv32_arithmetic.specs.Bits.{signExtend}
 use Rattle.riscv_decode.specs.declared.Operation.{Operation}
@@ -62,3 +62,6 @@ meaning (operation.Rem v) pc = Compute (v .rd) Rem (v .rs1) (v .rs2)
 meaning (operation.Remu v) pc = Compute (v .rd) Remu (v .rs1) (v .rs2)
 meaning operation.Fence pc = Nothing
 meaning operation.FenceI pc = Nothing
+meaning (operation.Mulh v) pc = Compute (v .rd) Mulh (v .rs1) (v .rs2)
+meaning (operation.Mulhsu v) pc = Compute (v .rd) Mulhsu (v .rs1) (v .rs2)
+meaning (operation.Mulhu v) pc = Compute (v .rd) Mulhu (v .rs1) (v .rs2)

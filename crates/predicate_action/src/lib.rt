@@ -205,6 +205,9 @@ pub fn action_of(operation: Operation, pc: u32) -> Action
         Operation::Remu(v) => compute_of(Binary::Remu, v),
         Operation::Fence => Action::Nothing,
         Operation::FenceI => Action::Nothing,
+        Operation::Mulh(v) => compute_of(Binary::Mulh, v),
+        Operation::Mulhsu(v) => compute_of(Binary::Mulhsu, v),
+        Operation::Mulhu(v) => compute_of(Binary::Mulhu, v),
     }
 }
 

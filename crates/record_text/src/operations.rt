@@ -19,7 +19,7 @@ use std::num::wrapping_add_u32;
 const SPELLING_BYTES: usize = 8;
 
 // In the order of the operations' numbers; the last stands first, so that a remainder finds its place.
-const SPELLINGS: [u8; SPELLING_BYTES * OPERATIONS] = *b"fence.i \
+const SPELLINGS: [u8; SPELLING_BYTES * OPERATIONS] = *b"mulhu  r\
 lui    u\
 auipc  p\
 jal    j\
@@ -62,7 +62,10 @@ div    r\
 divu   r\
 rem    r\
 remu   r\
-fence   ";
+fence   \
+fence.i \
+mulh   r\
+mulhsu r";
 
 fn put_word(line: &mut Line, at: usize, rd: u32, word: u32) -> usize {
     let place = put_number(line, at, b"x", rd);

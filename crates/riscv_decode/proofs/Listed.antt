@@ -5,14 +5,15 @@ use mathlib.Core.List.{List, [], _∷_, map, _++_, append-assoc}
 use Prim.Native.Nat.{ℕ, zero, suc, _+_, _<_}
 use native.Mathlib.Nat.{add-zero, zero-add, add-suc, suc-add, le-of-suc-le-suc, not-suc-le-zero}
 use native.Mathlib.Numerals.{add-one}
+use native.Mathlib.Omega.{arith}
 use lib.Dec.{T}
 use lib.Ieee.Fits.{and-l, and-r}
 use lib.ListN.{length, getD, length-append}
 use lib.Seq.{getD-append-seam}
-use Rattle.riscv_decode.specs.Listing.{Line, noLine, Fixed, Opcode, listing, operation, fixed, has, refusedFields}
+use Rattle.riscv_decode.specs.Listing.{Line, noLine, Opcode, listing, operation, fixed, has}
 use Rattle.riscv_decode.specs.Rows.{rowNumber, noRow, matches, findRow, apartFrom, maskOf, matchOf, rowsFrom, standingRows}
 use Rattle.riscv_decode.specs.Decode.{operationOf, decodeWith, decodeOf, decodeListed}
-use Rattle.riscv_decode.specs.Statements.{FortyFour, RowsListed, DecodeListed, LinesAccepted, NamedRefused}
+use Rattle.riscv_decode.specs.Statements.{Counted, RowsListed, DecodeListed, LinesAccepted, UpperHalves, SystemRefused}
 use Rattle.riscv_decode.specs.declared.Row.{Row}
 use Rattle.riscv_decode.specs.declared.Operation.{Operation}
 use Rattle.riscv_decode.specs.declared.Decoded.{Decoded}
@@ -43,9 +44,9 @@ by-line ps (l ∷ ls) w t =
     (rw (append-assoc, length-append, add-one) at (by-line (ps ++ known w l ∷ []) ls w (and-r (fits (fixed l)) (allFit ls) t))))
 
 -- the rows and the lines
-pub forty-four : FortyFour
+pub counted : Counted
 unfolding standingRows rowsFrom listing
-forty-four = (refl, refl)
+counted = (refl, refl)
 
 pub decode-listed : DecodeListed
 unfolding decodeOf decodeWith operationOf standingRows listing fixed allFit
@@ -73,34 +74,27 @@ pub accepted : LinesAccepted
 unfolding decodeOf decodeWith operationOf
 accepted i w h p =
     let q = rows-listed i w h in
-    let g : i < length standingRows = rw (forty-four .1, ← forty-four .0) h in
+    let g : i < length standingRows = rw (counted .1, ← counted .0) h in
     let e : findRow standingRows w ≡ suc i = found standingRows standing-apart i w g (subst T (sym (q .0)) p) ∙ q .1 in
     rw e (getD-known w listing i h)
 
--- a row of these fields
-abbrev rowOf : Fixed → Row
-rowOf f = record { 0 = maskOf f; 1 = matchOf f; 2 = 0 }
+pub upper-halves : UpperHalves
+unfolding listing fixed operation
+upper-halves w = (accepted 44 w (omega arith), accepted 45 w (omega arith), accepted 46 w (omega arith))
 
-allBeside : List Fixed → Bool
-allBeside [] = true
-allBeside (f ∷ fs) = fits f && apartFrom (rowOf f) standingRows && allBeside fs
+-- what a row of opcode 73 would be
+abbrev system : Row
+system = record { 0 = maskOf (Opcode 0x73); 1 = matchOf (Opcode 0x73); 2 = 0 }
 
-beside-at : (fs : List Fixed) (i w : ℕ) → T (allBeside fs) → i < length fs → T (has (getD fs i (Opcode 0)) w)
-    → T (apartFrom (rowOf (getD fs i (Opcode 0))) standingRows) × T (matches (rowOf (getD fs i (Opcode 0))) w)
-unfolding allBeside
-beside-at [] i w t h p = absurd (not-suc-le-zero h)
-beside-at (f ∷ fs) zero w t h p =
-    let b = and-l (fits f && apartFrom (rowOf f) standingRows) (allBeside fs) t in
-    (and-r (fits f) (apartFrom (rowOf f) standingRows) b, subst T (sym (fields f w (and-l (fits f) (apartFrom (rowOf f) standingRows) b))) p)
-beside-at (f ∷ fs) (suc i) w t h p =
-    beside-at fs i w (and-r (fits f && apartFrom (rowOf f) standingRows) (allBeside fs) t) (le-of-suc-le-suc h) p
+system-apart : T (apartFrom system standingRows)
+unfolding apartFrom standingRows rowsFrom listing fixed maskOf matchOf
+system-apart = tt
 
-pub named-refused : NamedRefused
-unfolding decodeOf decodeWith operationOf refusedFields allBeside apartFrom standingRows rowsFrom listing fixed maskOf matchOf
-named-refused i w h p =
-    let r = rowOf (getD refusedFields i (Opcode 0)) in
-    let b = beside-at refusedFields i w tt h p in
-    (λ j g q. not-both r (getD standingRows j noRow) w (from r standingRows (b .0) j g) (b .1) q, rw (beside r standingRows w (b .0) (b .1)))
+pub system-refused : SystemRefused
+unfolding decodeOf decodeWith operationOf
+system-refused w p =
+    let q : T (matches system w) = subst T (sym (fields (Opcode 0x73) w tt)) p in
+    (λ j g r. not-both system (getD standingRows j noRow) w (from system standingRows system-apart j g) q r, rw (beside system standingRows w system-apart q))
 
 -- a test of operations, on the one that each line makes of the word
 abbrev pub allLines : (Operation → Bool) → List Line → ℕ → Bool

@@ -1,4 +1,4 @@
--- The manual's listing of instructions ("RV32/64G Instruction Set Listings"), in document 01's order (Halfword and word).
+-- The manual's listing of instructions ("RV32/64G Instruction Set Listings"), in document 01's order (Halfword and word), then MULH, MULHSU and MULHU.
 use mathlib.Core.Bool.{Bool, _&&_}
 use mathlib.Core.List.{List, [], _∷_}
 use Prim.Native.Nat.{ℕ}
@@ -27,7 +27,7 @@ pub data Line : Type 0 where
 
 -- Halfword and word: how many operations there are
 abbrev pub operationCount : ℕ
-operationCount = 44
+operationCount = 47
 
 -- their lines: a line's place, counted from 1, is its operation's number. Of FENCE and FENCE.I only opcode and funct3 are fixed
 unfoldable pub listing : List Line
@@ -76,6 +76,9 @@ listing =
     R 0x33 7 0x01 op.Remu ∷
     NoOperands 0x0f 0 op.Fence ∷
     NoOperands 0x0f 1 op.FenceI ∷
+    R 0x33 1 0x01 op.Mulh ∷
+    R 0x33 2 0x01 op.Mulhsu ∷
+    R 0x33 3 0x01 op.Mulhu ∷
     []
 
 -- what stands past the listing's end
@@ -116,7 +119,3 @@ has (Opcode opcode) w = eqb (opcodeField w) opcode
 has (Funct3 opcode funct3) w = eqb (opcodeField w) opcode && eqb (funct3Field w) funct3
 has (Funct7 opcode funct3 funct7) w =
     eqb (opcodeField w) opcode && eqb (funct3Field w) funct3 && eqb (funct7Field w) funct7
-
--- the fields of MULH, MULHSU and MULHU, and opcode 73, which ECALL and EBREAK have: no line has them
-unfoldable pub refusedFields : List Fixed
-refusedFields = Funct7 0x33 1 0x01 ∷ Funct7 0x33 2 0x01 ∷ Funct7 0x33 3 0x01 ∷ Opcode 0x73 ∷ []

@@ -3,14 +3,16 @@ use mathlib.Core.Path.{_≡_}
 use Prim.Native.Nat.{ℕ, suc, _<_}
 use lib.Dec.{T}
 use lib.ListN.{length, getD}
-use Rattle.riscv_decode.specs.Listing.{operationCount, noLine, Opcode, listing, operation, fixed, has, refusedFields}
+use Rattle.riscv_decode.specs.Listing.{operationCount, noLine, Opcode, Funct7, listing, operation, fixed, has}
 use Rattle.riscv_decode.specs.Rows.{rowNumber, noRow, matches, allApart, standingRows}
 use Rattle.riscv_decode.specs.Decode.{decodeOf, decodeListed}
+use Rattle.riscv_decode.specs.Operands.{rType}
 use Rattle.riscv_decode.specs.declared.Decoded.the-variants.{Known, Refused}
+use Rattle.riscv_decode.specs.declared.Operation.the-variants.{Mulh, Mulhsu, Mulhu}
 
--- forty-four operations are accepted: so many lines, and a row for each
-abbrev pub FortyFour : Type 0
-FortyFour = (length listing ≡ operationCount) × (length standingRows ≡ operationCount)
+-- each operation has its line, and each line its row
+abbrev pub Counted : Type 0
+Counted = (length listing ≡ operationCount) × (length standingRows ≡ operationCount)
 
 -- the standing table passes the test of all pairs
 abbrev pub StandingApart : Type 0
@@ -37,8 +39,16 @@ abbrev pub LinesAccepted : Type 0
 LinesAccepted =
     (i w : ℕ) → i < length listing → T (has (fixed (getD listing i noLine)) w) → decodeOf w ≡ Known (operation (getD listing i noLine) w)
 
--- MULH, MULHSU, MULHU, ECALL and EBREAK have no row, and are refused
-abbrev pub NamedRefused : Type 0
-NamedRefused =
-    (i w : ℕ) → i < length refusedFields → T (has (getD refusedFields i (Opcode 0)) w)
+-- MULH, MULHSU and MULHU are the words of opcode 33 with funct7 1 and funct3 1, 2 and 3
+abbrev pub UpperHalves : Type 0
+UpperHalves =
+    (w : ℕ)
+    → (T (has (Funct7 0x33 1 1) w) → decodeOf w ≡ Known (Mulh (rType w)))
+    × (T (has (Funct7 0x33 2 1) w) → decodeOf w ≡ Known (Mulhsu (rType w)))
+    × (T (has (Funct7 0x33 3 1) w) → decodeOf w ≡ Known (Mulhu (rType w)))
+
+-- a word of opcode 73, which the manual calls SYSTEM (ECALL, EBREAK, CSR instructions), matches no row, and is refused
+abbrev pub SystemRefused : Type 0
+SystemRefused =
+    (w : ℕ) → T (has (Opcode 0x73) w)
     → ((j : ℕ) → j < length standingRows → T (matches (getD standingRows j noRow) w) → ⊥) × (decodeOf w ≡ Refused)

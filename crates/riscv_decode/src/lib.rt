@@ -12,7 +12,7 @@ use rows::find_row;
 use rows::find_standing_row;
 
 // How many operations are accepted.
-pub const OPERATIONS: usize = 44;
+pub const OPERATIONS: usize = 47;
 
 // Operands, a struct for each of the manual's formats; immediates are sign-extended to 32 bits.
 pub struct UType {
@@ -101,6 +101,9 @@ pub enum Operation {
     Remu(RType),
     Fence,
     FenceI,
+    Mulh(RType),
+    Mulhsu(RType),
+    Mulhu(RType),
 }
 
 // What a word decodes to.

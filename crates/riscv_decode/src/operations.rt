@@ -71,7 +71,10 @@ fn computing_of(number: u32, word: u32) -> Operation
         41 => Operation::Rem(r_type(word)),
         42 => Operation::Remu(r_type(word)),
         43 => Operation::Fence,
-        _ => Operation::FenceI,
+        44 => Operation::FenceI,
+        45 => Operation::Mulh(r_type(word)),
+        46 => Operation::Mulhsu(r_type(word)),
+        _ => Operation::Mulhu(r_type(word)),
     }
 }
 

@@ -96,6 +96,12 @@ const FENCE: Row = Row(0x0000_707f, 0x0000_000f, 43);
 
 const FENCE_I: Row = Row(0x0000_707f, 0x0000_100f, 44);
 
+const MULH: Row = Row(0xfe00_707f, 0x0200_1033, 45);
+
+const MULHSU: Row = Row(0xfe00_707f, 0x0200_2033, 46);
+
+const MULHU: Row = Row(0xfe00_707f, 0x0200_3033, 47);
+
 // The standing table.
 const STANDING_ROWS: Table = [
     LUI,
@@ -142,6 +148,9 @@ const STANDING_ROWS: Table = [
     REMU,
     FENCE,
     FENCE_I,
+    MULH,
+    MULHSU,
+    MULHU,
 ];
 
 pub fn standing_rows() -> Table
@@ -253,6 +262,9 @@ fn likely_register(funct3: u32, bit25: u32, bit30: u32) -> Row
     if bit25 == 1 {
         return match funct3 {
             0 => MUL,
+            1 => MULH,
+            2 => MULHSU,
+            3 => MULHU,
             4 => DIV,
             5 => DIVU,
             6 => REM,

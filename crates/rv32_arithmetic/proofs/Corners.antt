@@ -1,7 +1,7 @@
 -- The corner cases of the arithmetic, computed from its definitions (document 01, Lane word). Assumes nothing.
 use mathlib.Core.Path.{_≡_, refl}
 use Prim.Native.Nat.{ℕ}
-use Rattle.rv32_arithmetic.specs.Arithmetic.{add, sub, sra, mul, div, divu, rem, remu}
+use Rattle.rv32_arithmetic.specs.Arithmetic.{add, sub, sra, mul, mulh, mulhsu, mulhu, div, divu, rem, remu}
 
 -- 80000000 by -1
 pub overflow-quotient : div 0x80000000 0xffffffff ≡ 0x80000000
@@ -49,3 +49,13 @@ difference-wraps = refl
 
 pub product-wraps : mul 0xffffffff 0xffffffff ≡ 1
 product-wraps = refl
+
+-- all bits set, by itself: 1 of signed by signed, -(2 ^ 32 - 1) of signed by unsigned, (2 ^ 32 - 1) ^ 2 of unsigned by unsigned
+pub signed-by-signed : mulh 0xffffffff 0xffffffff ≡ 0
+signed-by-signed = refl
+
+pub signed-by-unsigned : mulhsu 0xffffffff 0xffffffff ≡ 0xffffffff
+signed-by-unsigned = refl
+
+pub unsigned-by-unsigned : mulhu 0xffffffff 0xffffffff ≡ 0xfffffffe
+unsigned-by-unsigned = refl

@@ -3,9 +3,9 @@ use mathlib.Core.Bool.{Bool, cond, not}
 use Prim.Native.Nat.{ℕ, _+_, _-_, _*_, _/_, _%_, _^_}
 use lib.Bits.{bitAnd, bitOr, bitXor}
 use lib.Dec.{eqb, ltb}
-use lib.IntN.{ℤ}
+use lib.IntN.{ℤ, pos, _*ℤ_}
 use lib.Signed.{quotZ, remZ, shrZ, ltZ}
-use mir.Syntax.{w32}
+use mir.Syntax.{w32, w64}
 use mir.Val.{toZ, ofZ}
 
 -- a word read as a two's complement number
@@ -63,6 +63,22 @@ xor a b = bitXor a b
 -- MUL: the low 32 bits of the product
 abbrev pub mul : ℕ → ℕ → ℕ
 mul a b = a * b % 2 ^ 32
+
+-- the 64-bit product of two words, each read as a number in its own way: by `signed`, or by `pos`, which reads it as unsigned
+abbrev pub product : (ℕ → ℤ) → (ℕ → ℤ) → ℕ → ℕ → ℕ
+product left right a b = ofZ w64 (left a *ℤ right b)
+
+-- MULH: the upper 32 bits of the product of signed by signed
+abbrev pub mulh : ℕ → ℕ → ℕ
+mulh a b = product signed signed a b / 2 ^ 32
+
+-- MULHSU: of signed by unsigned
+abbrev pub mulhsu : ℕ → ℕ → ℕ
+mulhsu a b = product signed pos a b / 2 ^ 32
+
+-- MULHU: of unsigned by unsigned
+abbrev pub mulhu : ℕ → ℕ → ℕ
+mulhu a b = product pos pos a b / 2 ^ 32
 
 -- DIV: the quotient of signed numbers, cut to its whole part; by 0, all bits set
 abbrev pub div : ℕ → ℕ → ℕ

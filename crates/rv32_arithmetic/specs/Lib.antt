@@ -2,3 +2,6 @@
 pub mod Bits
 pub mod Arithmetic
 pub mod Value
+pub mod Halves
+-- For the code's proofs:
+pub mod Correction

@@ -1,7 +1,8 @@
 // The operations on single 32-bit values (the manual's RV32I and M chapters).
 ghost use mathlib.Core.Path.{_≡_};
-ghost use Rattle.rv32_arithmetic.specs.Arithmetic.{signed, unsigned, flag, add, sub, sll, srl, sra, slt, sltu, and, or, xor, mul, div, divu, rem, remu, beq, bne, bge, bgeu, target};
+ghost use Rattle.rv32_arithmetic.specs.Arithmetic.{signed, unsigned, flag, add, sub, sll, srl, sra, slt, sltu, and, or, xor, mul, mulh, mulhsu, mulhu, div, divu, rem, remu, beq, bne, bge, bgeu, target};
 ghost use Rattle.rv32_arithmetic.specs.Bits.{signExtend, byteOf, join};
+ghost use Rattle.rv32_arithmetic.specs.Correction.{correction};
 ghost use Rattle.rv32_arithmetic.specs.Value.{valueOf};
 
 // A word read as a two's complement number. `!` takes n to -n - 1.
@@ -96,6 +97,32 @@ pub fn rv32_mul(a: u32, b: u32) -> u32
 {
     let product = (a as u64) * (b as u64);
     (product % 0x1_0000_0000) as u32
+}
+
+// What the sign of one operand takes from the upper half of the unsigned product: the other operand, where it is negative.
+fn sign_correction(operand: u32, other: u32) -> u32
+    ensures { λ r. ⌜ r ≡ correction operand other ⌝ }
+{
+    if operand < 0x8000_0000 { 0 } else { other }
+}
+
+pub fn rv32_mulhu(a: u32, b: u32) -> u32
+    ensures { λ r. ⌜ r ≡ mulhu a b ⌝ }
+{
+    let product = (a as u64) * (b as u64);
+    (product / 0x1_0000_0000) as u32
+}
+
+pub fn rv32_mulhsu(a: u32, b: u32) -> u32
+    ensures { λ r. ⌜ r ≡ mulhsu a b ⌝ }
+{
+    rv32_sub(rv32_mulhu(a, b), sign_correction(a, b))
+}
+
+pub fn rv32_mulh(a: u32, b: u32) -> u32
+    ensures { λ r. ⌜ r ≡ mulh a b ⌝ }
+{
+    rv32_sub(rv32_mulhsu(a, b), sign_correction(b, a))
 }
 
 // A signed quotient and its remainder.
@@ -235,6 +262,9 @@ pub enum Binary {
     Or,
     And,
     Mul,
+    Mulh,
+    Mulhsu,
+    Mulhu,
     Div,
     Divu,
     Rem,
@@ -264,6 +294,9 @@ pub fn value(operation: Binary, a: u32, b: u32) -> u32
         Binary::Or => rv32_or(a, b),
         Binary::And => rv32_and(a, b),
         Binary::Mul => rv32_mul(a, b),
+        Binary::Mulh => rv32_mulh(a, b),
+        Binary::Mulhsu => rv32_mulhsu(a, b),
+        Binary::Mulhu => rv32_mulhu(a, b),
         Binary::Div => rv32_div(a, b),
         Binary::Divu => rv32_divu(a, b),
         Binary::Rem => rv32_rem(a, b),

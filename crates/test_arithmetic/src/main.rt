@@ -2,7 +2,7 @@
 // pairs there are and how many results differ in each way.
 //
 // Standard input has the pairs of the published RISC-V tests (riscv-tests, rv32ui and rv32um) that are known here, each
-// once; the published files were not at hand. A line is the operation, in five letters, its operands and its result, in
+// once; the published files were not at hand. A line is the operation, in six letters, its operands and its result, in
 // eight hexadecimal digits each. An immediate stands sign-extended, as the operation takes it; a branch has the result 1
 // where it is taken. LUI has the loaded value, and the shift to the right by which its test looks at it. AUIPC has the
 // address 80000000, which its test leaves open, and the test's offset. oracle/vectors computes each result anew.
@@ -15,7 +15,7 @@ use test_support::differs;
 use test_support::end_line;
 use test_support::say;
 
-const LINE: usize = 33;
+const LINE: usize = 34;
 
 struct Counts {
     pairs: u64,
@@ -47,7 +47,7 @@ fn word(text: &[u8], at: usize) -> u32
 
 // The lane word of one column: lane k has line `first` + k; after the last line comes line 0.
 fn column(text: &[u8], lines: usize, first: usize, offset: usize) -> LaneWord
-    requires { ⌜ (0 < lines) × (lines * 33 ≤ length (now text)) × (first ≤ lines) × (offset ≤ 25) ⌝ }
+    requires { ⌜ (0 < lines) × (lines * 34 ≤ length (now text)) × (first ≤ lines) × (offset ≤ 26) ⌝ }
 {
     let mut values = [0u32; LaneWord::LANES];
     let mut k: usize = 0;
@@ -75,6 +75,9 @@ fn by_method(operation: Binary, left: LaneWord, right: LaneWord) -> LaneWord {
         Binary::Or => left.or(right),
         Binary::And => left.and(right),
         Binary::Mul => left.mul(right),
+        Binary::Mulh => left.mulh(right),
+        Binary::Mulhsu => left.mulhsu(right),
+        Binary::Mulhu => left.mulhu(right),
         Binary::Div => left.div(right),
         Binary::Divu => left.divu(right),
         Binary::Rem => left.rem(right),
@@ -89,26 +92,26 @@ fn by_method(operation: Binary, left: LaneWord, right: LaneWord) -> LaneWord {
 
 // One line, in a lane of its own with other lines around it: no pair where it is another operation's.
 fn compare(text: &[u8], lines: usize, line: usize, name: &[u8], operation: Binary) -> Counts
-    requires { ⌜ (line < lines) × (lines * 33 ≤ length (now text)) ⌝ }
+    requires { ⌜ (line < lines) × (lines * 34 ≤ length (now text)) ⌝ }
     ensures { λ r. ⌜ (r .pairs ≤ 1) × (r .words ≤ 1) × (r .lanes ≤ 1) ⌝ }
 {
     let at = line * LINE;
-    if !check::same(&text[at..at + 5], name) {
+    if !check::same(&text[at..at + 6], name) {
         return Counts {
             pairs: 0,
             words: 0,
             lanes: 0,
         };
     }
-    let result = word(text, at + 24);
+    let result = word(text, at + 25);
     let lane = line % LaneWord::LANES;
-    let left = column(text, lines, line - lane, 6);
-    let right = column(text, lines, line - lane, 15);
+    let left = column(text, lines, line - lane, 7);
+    let right = column(text, lines, line - lane, 16);
     let values = by_method(operation, left, right).values;
     Counts {
         pairs: 1,
         words: differs(
-            value(operation, word(text, at + 6), word(text, at + 15)),
+            value(operation, word(text, at + 7), word(text, at + 16)),
             result,
         ),
         lanes: differs(values[lane], result),
@@ -145,47 +148,50 @@ fn report(text: &[u8], name: &[u8], operation: Binary) {
 }
 
 fn immediates(text: &[u8]) {
-    report(text, b"lui  ", Binary::Sra);
-    report(text, b"auipc", Binary::Add);
-    report(text, b"addi ", Binary::Add);
-    report(text, b"slti ", Binary::Slt);
-    report(text, b"sltiu", Binary::Sltu);
-    report(text, b"xori ", Binary::Xor);
-    report(text, b"ori  ", Binary::Or);
-    report(text, b"andi ", Binary::And);
-    report(text, b"slli ", Binary::Sll);
-    report(text, b"srli ", Binary::Srl);
-    report(text, b"srai ", Binary::Sra);
+    report(text, b"lui   ", Binary::Sra);
+    report(text, b"auipc ", Binary::Add);
+    report(text, b"addi  ", Binary::Add);
+    report(text, b"slti  ", Binary::Slt);
+    report(text, b"sltiu ", Binary::Sltu);
+    report(text, b"xori  ", Binary::Xor);
+    report(text, b"ori   ", Binary::Or);
+    report(text, b"andi  ", Binary::And);
+    report(text, b"slli  ", Binary::Sll);
+    report(text, b"srli  ", Binary::Srl);
+    report(text, b"srai  ", Binary::Sra);
 }
 
 fn branches(text: &[u8]) {
-    report(text, b"beq  ", Binary::Eq);
-    report(text, b"bne  ", Binary::Ne);
-    report(text, b"blt  ", Binary::Slt);
-    report(text, b"bge  ", Binary::Ge);
-    report(text, b"bltu ", Binary::Sltu);
-    report(text, b"bgeu ", Binary::Geu);
+    report(text, b"beq   ", Binary::Eq);
+    report(text, b"bne   ", Binary::Ne);
+    report(text, b"blt   ", Binary::Slt);
+    report(text, b"bge   ", Binary::Ge);
+    report(text, b"bltu  ", Binary::Sltu);
+    report(text, b"bgeu  ", Binary::Geu);
 }
 
 fn registers(text: &[u8]) {
-    report(text, b"add  ", Binary::Add);
-    report(text, b"sub  ", Binary::Sub);
-    report(text, b"sll  ", Binary::Sll);
-    report(text, b"slt  ", Binary::Slt);
-    report(text, b"sltu ", Binary::Sltu);
-    report(text, b"xor  ", Binary::Xor);
-    report(text, b"srl  ", Binary::Srl);
-    report(text, b"sra  ", Binary::Sra);
-    report(text, b"or   ", Binary::Or);
-    report(text, b"and  ", Binary::And);
+    report(text, b"add   ", Binary::Add);
+    report(text, b"sub   ", Binary::Sub);
+    report(text, b"sll   ", Binary::Sll);
+    report(text, b"slt   ", Binary::Slt);
+    report(text, b"sltu  ", Binary::Sltu);
+    report(text, b"xor   ", Binary::Xor);
+    report(text, b"srl   ", Binary::Srl);
+    report(text, b"sra   ", Binary::Sra);
+    report(text, b"or    ", Binary::Or);
+    report(text, b"and   ", Binary::And);
 }
 
 fn products(text: &[u8]) {
-    report(text, b"mul  ", Binary::Mul);
-    report(text, b"div  ", Binary::Div);
-    report(text, b"divu ", Binary::Divu);
-    report(text, b"rem  ", Binary::Rem);
-    report(text, b"remu ", Binary::Remu);
+    report(text, b"mul   ", Binary::Mul);
+    report(text, b"mulh  ", Binary::Mulh);
+    report(text, b"mulhsu", Binary::Mulhsu);
+    report(text, b"mulhu ", Binary::Mulhu);
+    report(text, b"div   ", Binary::Div);
+    report(text, b"divu  ", Binary::Divu);
+    report(text, b"rem   ", Binary::Rem);
+    report(text, b"remu  ", Binary::Remu);
 }
 
 fn main() {

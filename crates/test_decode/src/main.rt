@@ -78,6 +78,9 @@ fn of_registers(operation: Operation) -> Entry {
         Operation::Divu(v) => r_entry(40, v),
         Operation::Rem(v) => r_entry(41, v),
         Operation::Remu(v) => r_entry(42, v),
+        Operation::Mulh(v) => r_entry(45, v),
+        Operation::Mulhsu(v) => r_entry(46, v),
+        Operation::Mulhu(v) => r_entry(47, v),
         Operation::Fence => entry_of(43, 0, 0, 0, 0),
         _ => entry_of(44, 0, 0, 0, 0),
     }

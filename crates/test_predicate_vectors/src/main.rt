@@ -1,5 +1,6 @@
-// Runs the images on standard input, which oracle/run_vectors makes of the published tests of loads, stores, branches, jumps
-// and FENCE.I and of tests of FENCE, and prints for each operation how many there are and how many returned something else.
+// Runs the images on standard input, which oracle/run_vectors makes of the published tests of loads, stores, branches, jumps,
+// FENCE.I and the upper halves of a product and of tests of FENCE, and prints for each operation how many there are and how many
+// returned something else.
 use predicate_semantics::Rv32SymbolLayout;
 use riscv32imc_predicate::PredicateAnswer;
 use test_support::differs;

@@ -11,6 +11,9 @@ likely-register-spec =
     tie.close
     (tie.spec
     (λ c. stands 37 tt)
+    (λ c. stands 44 tt)
+    (λ c. stands 45 tt)
+    (λ c. stands 46 tt)
     (λ c. stands 38 tt)
     (λ c. stands 39 tt)
     (λ c. stands 40 tt)
