@@ -45,6 +45,12 @@ fn division(steps: u32) -> Case {
     repeated(steps / 6, &[lui(5, 0xfedc_b000)], &body)
 }
 
+/// MUL by funct3 0, MULH by 1, MULHSU by 2, MULHU by 3.
+fn product(steps: u32, funct3: u32) -> Case {
+    let body = [r(1, funct3, 6, 5, 10), r(1, funct3, 7, 10, 5), r(1, funct3, 6, 5, 7), r(1, funct3, 7, 10, 6)];
+    repeated(steps / 6, &[lui(5, 0xfedc_b000)], &body)
+}
+
 fn stack(steps: u32) -> Case {
     let body = [s(2, 2, 10, -16), load(2, 5, 2, -16), s(1, 2, 5, -8), load(4, 6, 2, -7), s(0, 2, 6, -4), load(1, 7, 2, -5)];
     repeated(steps / 8, &[s(2, 2, 0, -8)], &body)
@@ -126,6 +132,21 @@ fn time(often: u32, mut call: impl FnMut()) -> f64 {
     (used() - start).as_nanos() as f64 / f64::from(often)
 }
 
+/// Nanoseconds for a step of an image that the Rust refuses.
+fn measured_alone(port: &mut Port, case: &Case, lent: Lent, rounds: usize) -> (f64, f64) {
+    assert!(original::run(case).result.is_err());
+    let input = case.input();
+    let (status, written) = port.call(&input, lent);
+    assert_eq!((status, written % 14), (0, 21 % 14));
+    let steps = ((written - 21) / 14) as f64;
+    let times = (0..rounds).map(|_| {
+        time(1, || {
+            std::hint::black_box(port.call(&input, lent));
+        })
+    });
+    (steps, median(times.collect()) / steps)
+}
+
 struct Timed {
     steps: f64,
     original: f64,
@@ -165,6 +186,7 @@ fn main() {
     row("ALU loop", arithmetic(100_000, LANES), long);
     row("ALU loop on told words", arithmetic(100_000, TOLD), long);
     row("division loop", division(100_000), long);
+    row("MUL loop", product(100_000, 0), long);
     row("loads and stores on the stack", stack(100_000), long);
     row("branch loop", branches(100_000), long);
     row("50,000 distinct bytes", filling(50_000), Lent { rows: 60_000 * ROW, ..long });
@@ -199,5 +221,9 @@ fn main() {
             missing(bytes, 1_000),
             Lent { rows: (2 * bytes as usize) * ROW, ..long },
         );
+    }
+    for (name, funct3) in [("MULH", 1), ("MULHSU", 2), ("MULHU", 3)] {
+        let (steps, port) = measured_alone(port, &product(100_000, funct3), long, rounds);
+        println!("| {name} loop | {steps} | refused | {port:.1} | |");
     }
 }

@@ -1,6 +1,5 @@
 //! Words and halfwords from their operands, by the manual's formats.
 
-/// The 44 rows: opcode, funct3, funct7, and the format.
 #[derive(Clone, Copy, Debug, PartialEq, Eq)]
 pub enum Format {
     U,
@@ -13,7 +12,11 @@ pub enum Format {
     Fence,
 }
 
-pub const ROWS: [(u32, u32, u32, Format); 44] = [
+/// Opcode, funct3, funct7, and the format.
+pub type Row = (u32, u32, u32, Format);
+
+/// The 47 rows.
+pub const ROWS: [Row; 47] = [
     (0x37, 0, 0, Format::U),
     (0x17, 0, 0, Format::U),
     (0x6f, 0, 0, Format::J),
@@ -58,12 +61,13 @@ pub const ROWS: [(u32, u32, u32, Format); 44] = [
     (0x33, 7, 0x01, Format::R),
     (0x0f, 0, 0, Format::Fence),
     (0x0f, 1, 0, Format::Fence),
+    (0x33, 1, 0x01, Format::R),
+    (0x33, 2, 0x01, Format::R),
+    (0x33, 3, 0x01, Format::R),
 ];
 
-/// Rows of one opcode.
-pub fn rows_of(opcode: u32) -> impl Iterator<Item = &'static (u32, u32, u32, Format)> {
-    ROWS.iter().filter(move |row| row.0 == opcode)
-}
+/// The rows that the Rust executes too: all but MULH, MULHSU and MULHU.
+pub const SHARED_ROWS: &[Row] = ROWS.split_at(44).0;
 
 pub fn r(funct7: u32, funct3: u32, rd: u32, rs1: u32, rs2: u32) -> u32 {
     funct7 << 25 | rs2 << 20 | rs1 << 15 | funct3 << 12 | rd << 7 | 0x33

@@ -113,6 +113,7 @@ const TEMPORARIES: [u32; 14] = [5, 6, 7, 11, 12, 13, 14, 15, 16, 17, 28, 29, 30,
 
 struct Stream<'a> {
     random: &'a mut Random,
+    rows: &'a [Row],
     code: Code,
     tags: [Tag; 32],
     frame: [Tag; FRAME],
@@ -187,7 +188,7 @@ impl Stream<'_> {
         let (mut a, mut b) = (self.tags[left as usize], self.tags[right as usize]);
         match self.random.below(8) {
             0..=2 => {
-                let rows: Vec<_> = rows_of(0x33).collect();
+                let rows: Vec<_> = self.rows.iter().filter(|row| row.0 == 0x33).collect();
                 let (_, funct3, funct7, _) = **self.random.pick(&rows);
                 self.put(r(funct7, funct3, rd, left, right));
             }
@@ -431,7 +432,8 @@ impl Stream<'_> {
 }
 
 /// A firmware that is mostly accepted: it saves x1, works on lanes, the stack and memory, records events, and returns.
-pub fn stream(random: &mut Random) -> Case {
+/// Its register operations are those of `rows`.
+pub fn stream(rows: &[Row], random: &mut Random) -> Case {
     let event_count = 0x8015_0000 + 4 * random.below(0x100);
     let case = Case { entry: 0x8000_0000, event_count, events: event_count + 4 + random.below(64), image: Vec::new() };
     let careless = *random.pick(&[0, 0, 10, 40]);
@@ -440,7 +442,8 @@ pub fn stream(random: &mut Random) -> Case {
     tags[10] = Tag::Uneven;
     let size = 400 + random.below(400) as usize;
     let (end, past_end) = (0x8000_0000 + size as u32, Tag::Even);
-    let mut stream = Stream { random, code: Code::default(), tags, frame: [Tag::Even; FRAME], case, recorded: 0, careless, end, past_end };
+    let (code, frame, recorded) = (Code::default(), [Tag::Even; FRAME], 0);
+    let mut stream = Stream { random, rows, code, tags, frame, case, recorded, careless, end, past_end };
     stream.put(addi(2, 2, -(FRAME as i32) - 16));
     stream.put(s(2, 2, 1, FRAME as i32 + 12));
     for rd in TEMPORARIES {

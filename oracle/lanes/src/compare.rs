@@ -3,18 +3,40 @@
 use crate::answer::{Accepted, Answer, Case};
 use crate::boundaries::AMPLE;
 use crate::model::Model;
-use crate::original;
+use crate::original::{self, Original};
 use crate::port::{ENTRY, Lent, Port, ROW};
 use crate::random::Random;
 use crate::scalar::Scalar;
+use crate::upper_halves::Known;
 use std::collections::BTreeMap;
 
 /// More than the entries that are lent to short runs.
 pub const PATIENCE: usize = 5_000;
 
+/// Who vouches for an answer.
+#[derive(Clone, Copy, Debug, PartialEq, Eq)]
+pub enum Judge {
+    Rust,
+    /// The model, of a run longer than the Rust is asked for.
+    Model,
+    /// The manual, of a run that fetches a word outside the Rust's domain.
+    Manual,
+}
+
+impl Judge {
+    fn suffix(self) -> &'static str {
+        match self {
+            Self::Rust => "",
+            Self::Model => ", by the model alone",
+            Self::Manual => ", by the manual alone",
+        }
+    }
+}
+
 #[derive(Default)]
 pub struct Tally {
     pub cases: u64,
+    pub manual: u64,
     pub kinds: BTreeMap<String, u64>,
     pub scalar_runs: u64,
     pub scalar_steps: u64,
@@ -34,6 +56,8 @@ pub struct Comparer {
     pub classes: BTreeMap<String, Tally>,
     /// Whether the last case was lent enough rows and entries.
     pub enough: bool,
+    /// Who judged the last case.
+    pub judge: Judge,
     /// The first differences, in words.
     pub told: Vec<String>,
 }
@@ -42,6 +66,23 @@ pub struct Comparer {
 const PROGRAM_LIMIT: usize = 32_768;
 
 const TOO_LARGE: Answer = Answer::Refused { number: 1, role: 0, steps: 0 };
+
+/// Whether the Rust says what the model does, and decoded as many words as the model's steps need.
+fn agreed(original: &Original, model: &Answer) -> bool {
+    match (&original.result, model) {
+        (Ok(result), Answer::Accepted(found)) => result == found && original.decoded as usize == result.trace.len(),
+        (Err((number, role)), Answer::Refused { number: n, role: r, steps }) => {
+            let begun = original.decoded.wrapping_sub(*steps);
+            let last = match (number, role) {
+                (1 | 2 | 3 | 8 | 12, _) | (_, 1 | 6..) => begun == 0,
+                (4 | 5, _) => begun <= 1,
+                _ => begun == 1,
+            };
+            (number, role) == (n, r) && last
+        }
+        _ => false,
+    }
+}
 
 /// Whether the library has the program's limit.
 fn limited(port: &mut Port) -> bool {
@@ -64,6 +105,7 @@ impl Comparer {
             budget,
             classes: BTreeMap::new(),
             enough: true,
+            judge: Judge::Rust,
             told: Vec::new(),
         }
     }
@@ -75,33 +117,26 @@ impl Comparer {
 
     /// The Rust's answer with the steps of a refusal, which the model tells and the count of decoded words confirms.
     /// A run above `patience` steps is 14 here: the model alone tells it, since most such runs go in circles.
+    /// Where the model fetched a word outside the Rust's domain the answer is the model's, and the Rust must be refused at that word.
     fn judged(&mut self, case: &Case) -> Result<Answer, String> {
         let model = self.model.run(case, usize::MAX, self.patience);
-        if matches!(model, Answer::Refused { number: 14, .. }) {
+        self.judge = match (self.model.outside, &model) {
+            (Some(_), _) => Judge::Manual,
+            (None, Answer::Refused { number: 14, .. }) => Judge::Model,
+            _ => Judge::Rust,
+        };
+        if self.judge == Judge::Model {
             return Ok(model);
         }
         let original = original::run(case);
-        let agreed = match (&original.result, &model) {
-            (Ok(result), Answer::Accepted(found)) => result == found && original.decoded as usize == result.trace.len(),
-            (Err((number, role)), Answer::Refused { number: n, role: r, steps }) => {
-                let begun = original.decoded.wrapping_sub(*steps);
-                let last = match (number, role) {
-                    (1 | 2 | 3 | 8 | 12, _) | (_, 1 | 6..) => begun == 0,
-                    (4 | 5, _) => begun <= 1,
-                    _ => begun == 1,
-                };
-                (number, role) == (n, r) && last
-            }
-            _ => false,
-        };
-        if agreed {
+        if self.model.outside.map_or_else(|| agreed(&original, &model), |outside| original.refused_at(&outside)) {
             return Ok(model);
         }
         let said = original.result.map(|result| result.trace.len());
-        Err(format!("the Rust says {said:?} after {} words, the model {}", original.decoded, model.kind()))
+        Err(format!("the Rust says {said:?} ({}) after {} words, the model {}", original.text, original.decoded, model.kind()))
     }
 
-    /// Feeds a case to the Rust, the model and the port, and an accepted one to the scalar run; gives the Rust's answer.
+    /// Feeds a case to the Rust, the model and the port, and an accepted one to the scalar run; gives the judge's answer.
     pub fn compare(&mut self, class: &str, name: &str, case: &Case, lent: Lent) -> Option<Answer> {
         let judged = self.judged(case);
         let answer = judged.as_ref().ok().cloned();
@@ -112,6 +147,7 @@ impl Comparer {
         };
         let tally = self.classes.entry(class.into()).or_default();
         tally.cases += 1;
+        tally.manual += (self.judge == Judge::Manual) as u64;
         match found.and_then(|kind| Ok((kind, scalars?))) {
             Ok((kind, (runs, steps))) => {
                 *tally.kinds.entry(kind).or_default() += 1;
@@ -127,6 +163,21 @@ impl Comparer {
             }
         }
         answer
+    }
+
+    /// Compares a case that was worked out by hand, and holds judge and outcome against that.
+    pub fn expect(&mut self, class: &str, known: &Known) {
+        let before = self.differences();
+        let Some(answer) = self.compare(class, &known.name, &known.case, AMPLE) else { return };
+        let outcome = match answer {
+            Answer::Accepted(result) => Ok(result.return_value),
+            Answer::Refused { number, role, .. } => Err((number, role)),
+        };
+        if self.differences() == before && (self.judge, outcome) != (known.judge, known.outcome) {
+            self.classes.entry(class.into()).or_default().differences += 1;
+            self.told
+                .push(format!("{class} {}: {outcome:x?} by {:?}, not {:x?} by {:?}", known.name, self.judge, known.outcome, known.judge));
+        }
     }
 
     /// What differs between the Rust, the model and the port, if anything does.
@@ -160,7 +211,8 @@ impl Comparer {
         }
         let kind = self.judged(&case).map(|answer| answer.kind());
         let symbols = [case.entry, case.event_count, case.events];
-        format!("{fault}\n  Rust: {kind:?}; {lent:?}; symbols {symbols:08x?}; image {:02x?}", &case.image[..case.image.len().min(400)])
+        let image = &case.image[..case.image.len().min(400)];
+        format!("{fault}\n  {:?}: {kind:?}; {lent:?}; symbols {symbols:08x?}; image {image:02x?}", self.judge)
     }
 
     /// The port against the judged answer, on lent memory that may be too short; how the run ended.
@@ -170,7 +222,6 @@ impl Comparer {
             return Ok("1 by the program's limit".into());
         }
         let (rows, entries) = (lent.rows / ROW, lent.trace / ENTRY);
-        let alone = if matches!(answer, Answer::Refused { number: 14, .. }) { ", by the model alone" } else { "" };
         let enough = self.model.written <= rows && rows >= 4 && self.model.trace.len() <= entries;
         self.enough = enough;
         let expected = if enough { answer } else { self.model.run(case, rows, entries) };
@@ -184,10 +235,11 @@ impl Comparer {
             return Err("lent more than patience".into());
         }
         let short = if record.len() <= lent.output { "" } else { ", 16" };
-        Ok(format!("{}{short}{alone}", expected.kind()))
+        Ok(format!("{}{short}{}", expected.kind(), self.judge.suffix()))
     }
 
-    /// Scalar runs of an accepted image: all 250 inputs, each with one of several fillings, as often as the budget allows; else some.
+    /// Scalar runs of an accepted image: all 250 inputs, each with one of several fillings, as often as the budget allows; else some,
+    /// or all once where the Rust doesn't judge.
     fn scalars(&mut self, case: &Case, result: &Accepted) -> Result<(u64, u64), String> {
         let steps = result.trace.len() as u64;
         let mut fillings = [[0; 32], [u32::MAX; 32], [0x8010_0000; 32], [0; 32], [0; 32]];
@@ -202,8 +254,9 @@ impl Comparer {
             (6..256).try_for_each(|input| run(&mut self.scalar, input, filling))?;
         }
         if rounds == 0 {
-            for (index, input) in [6, 7, 128, 254, 255].into_iter().enumerate() {
-                run(&mut self.scalar, input, &fillings[index])?;
+            let inputs = if self.judge == Judge::Manual { (6..256).collect() } else { vec![6, 7, 128, 254, 255] };
+            for (index, input) in inputs.into_iter().enumerate() {
+                run(&mut self.scalar, input, &fillings[index % fillings.len()])?;
             }
         }
         Ok((runs, runs * steps))
@@ -230,14 +283,14 @@ impl Comparer {
         for (class, tally) in &self.classes {
             let kinds: Vec<String> = tally.kinds.iter().map(|(kind, count)| format!("{kind}: {count}")).collect();
             println!(
-                "{class}: {} cases, {} differences, {} scalar runs ({} steps)",
-                tally.cases, tally.differences, tally.scalar_runs, tally.scalar_steps
+                "{class}: {} cases, {} differences, {} held to the manual alone, {} scalar runs ({} steps)",
+                tally.cases, tally.differences, tally.manual, tally.scalar_runs, tally.scalar_steps
             );
             println!("    {}", kinds.join(", "));
         }
-        let cases: u64 = self.classes.values().map(|tally| tally.cases).sum();
-        let runs: u64 = self.classes.values().map(|tally| tally.scalar_runs).sum();
-        println!("{cases} cases, {} differences, {runs} scalar runs", self.differences());
+        let sum = |count: fn(&Tally) -> u64| self.classes.values().map(count).sum::<u64>();
+        let (cases, manual, runs) = (sum(|tally| tally.cases), sum(|tally| tally.manual), sum(|tally| tally.scalar_runs));
+        println!("{cases} cases, {} differences, {manual} held to the manual alone, {runs} scalar runs", self.differences());
         self.told.iter().for_each(|told| println!("DIFFERENCE {told}"));
     }
 }

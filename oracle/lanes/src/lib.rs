@@ -1,5 +1,6 @@
 //! The lane run three times over: the Rust's own files, unchanged; the port, linked as a static library; and a model written from
-//! document 01, for what the Rust doesn't say (steps of a refusal, lent memory). With it demand 3's scalar run, and cases for all.
+//! document 01, for what the Rust doesn't say (steps of a refusal, lent memory) and for the words that it refuses against the manual.
+//! With it demand 3's scalar run, and cases for all.
 
 include!(concat!(env!("OUT_DIR"), "/sources.rs"));
 
@@ -14,3 +15,4 @@ pub mod original;
 pub mod port;
 pub mod random;
 pub mod scalar;
+pub mod upper_halves;

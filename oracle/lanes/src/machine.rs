@@ -156,9 +156,17 @@ pub fn action(word: u32, pc: u32) -> Result<Action, u8> {
         I::Divu(v) => registers(v, |a, b| a.checked_div(b).unwrap_or(u32::MAX)),
         I::Rem(v) => registers(v, rem),
         I::Remu(v) => registers(v, |a, b| a.checked_rem(b).unwrap_or(a)),
+        I::Mulh(v) => registers(v, |a, b| (i64::from(a as i32) * i64::from(b as i32) >> 32) as u32),
+        I::Mulhsu(v) => registers(v, |a, b| (i64::from(a as i32) * i64::from(b) >> 32) as u32),
+        I::Mulhu(v) => registers(v, |a, b| (u64::from(a) * u64::from(b) >> 32) as u32),
         I::Fence(_) | I::FenceI => Nothing,
-        I::Mulh(_) | I::Mulhsu(_) | I::Mulhu(_) | I::Ecall | I::Ebreak => return Err(9),
+        I::Ecall | I::Ebreak => return Err(9),
     })
+}
+
+/// Whether the manual has a word that the Rust refuses: MULH, MULHSU, MULHU. A run that fetches one is outside the Rust's domain.
+pub fn outside(word: u32) -> bool {
+    matches!(decode(word), Ok(Instruction::Mulh(_) | Instruction::Mulhsu(_) | Instruction::Mulhu(_)))
 }
 
 /// A loaded value, filled by its sign or by zeros.

@@ -1,5 +1,6 @@
 //! Document 01's lane run with lent memory, for what the Rust doesn't say: the completed steps of a refusal, refusals 13 and 14,
-//! and the trace up to a refusal. The Rust stays the judge: where it differs from this model, the model is wrong.
+//! and the trace up to a refusal. The Rust stays the judge, and a model that differs from it is wrong, up to the first word outside the
+//! Rust's domain; from there on the model follows the manual.
 
 use crate::answer::{Accepted, Answer, Case, Step};
 use crate::machine::*;
@@ -36,6 +37,14 @@ impl Lanes {
     }
 }
 
+/// The first fetched word that is outside the Rust's domain, and the steps completed before it.
+#[derive(Clone, Copy, Debug)]
+pub struct Outside {
+    pub pc: u32,
+    pub word: u32,
+    pub steps: u32,
+}
+
 /// Written bytes: which cell holds an address (0: none), and the cells.
 pub struct Model {
     place: Vec<u32>,
@@ -44,6 +53,7 @@ pub struct Model {
     pub trace: Vec<Step>,
     /// Distinct bytes written when the run ended.
     pub written: usize,
+    pub outside: Option<Outside>,
     locations: Vec<u32>,
 }
 
@@ -55,6 +65,7 @@ impl Default for Model {
             cells: Vec::new(),
             trace: Vec::new(),
             written: 0,
+            outside: None,
             locations: Vec::new(),
         }
     }
@@ -70,6 +81,7 @@ impl Model {
     pub fn run(&mut self, case: &Case, rows: usize, entries: usize) -> Answer {
         self.trace.clear();
         self.locations.clear();
+        self.outside = None;
         let ended = self.answer(case, rows, entries);
         for at in self.addresses.drain(..) {
             self.place[at] = 0;
@@ -148,6 +160,9 @@ impl Model {
             return Err((3, 0));
         }
         let (word, bytes) = self.fetch(case, pc)?;
+        if self.outside.is_none() && outside(word) {
+            self.outside = Some(Outside { pc, word, steps: self.trace.len() as u32 });
+        }
         let mut next = pc.wrapping_add(bytes);
         let mut set = (0, Lanes::constant(0));
         let mut put = None;

@@ -1,13 +1,24 @@
 //! The Rust's answer, its texts mapped to document 01's numbers and roles.
 
 use crate::answer::{Accepted, Case};
+use crate::model::Outside;
 use crate::riscv32imc::Rv32SymbolLayout;
 use crate::riscv32imc_predicate::execute_invalid_channel_predicate;
 
-/// The result, or number and role; and how many words were decoded.
+/// The result, or number and role; a refusal's own text; and how many words were decoded.
 pub struct Original {
     pub result: Result<Accepted, (u8, u8)>,
+    pub text: String,
     pub decoded: u32,
+}
+
+impl Original {
+    /// Whether the run was refused at this word and no earlier: the text has its address and its fields, the count its step.
+    pub fn refused_at(&self, outside: &Outside) -> bool {
+        let instruction = riscv_decode::decode(outside.word).expect("the manual has the word");
+        let text = format!("{OWN}unsupported instruction at 0x{:08x}: {instruction:?}", outside.pc);
+        self.text == text && self.decoded == outside.steps + 1
+    }
 }
 
 const OWN: &str = "finite-domain predicate transducer: ";
@@ -71,6 +82,7 @@ pub fn run(case: &Case) -> Original {
     riscv_decode::calls();
     let result = execute_invalid_channel_predicate(&case.image, symbols);
     let decoded = riscv_decode::calls() as u32;
+    let text = result.as_ref().err().map_or(String::new(), |error| error.0.clone());
     let result = result.map_err(|error| number_of(&error.0)).map(|found| {
         assert!(found.first_input == 6 && found.lane_count == 250);
         assert!(found.symbolic_transitions == found.control_trace.len() as u64);
@@ -92,5 +104,5 @@ pub fn run(case: &Case) -> Original {
                 .collect(),
         }
     });
-    Original { result, decoded }
+    Original { result, text, decoded }
 }

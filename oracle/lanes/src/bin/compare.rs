@@ -2,18 +2,20 @@
 //! CASES from the seed, mostly streams and damaged copies of them. BUDGET: scalar steps for one accepted image. CLASSES: some of
 //! boundaries,steps,halfwords,flips,seeded. Ends with status 1 where anything differs.
 
-use lanes::asm::ROWS;
+use lanes::asm::{ROWS, SHARED_ROWS};
 use lanes::boundaries::{self, AMPLE};
 use lanes::cases;
 use lanes::compare::{Comparer, PATIENCE};
 use lanes::port::{ENTRY, Lent, ROW};
 use lanes::random::Random;
+use lanes::upper_halves;
 
 fn edges(comparer: &mut Comparer) {
     comparer.short_inputs();
     for bound in boundaries::short() {
         comparer.compare("boundaries", &bound.name, &bound.case, bound.lent);
     }
+    upper_halves::known().iter().for_each(|known| comparer.expect("upper halves", known));
 }
 
 fn steps(comparer: &mut Comparer) {
@@ -62,14 +64,15 @@ fn lent(random: &mut Random) -> Lent {
 fn seeded(comparer: &mut Comparer, random: &mut Random, index: u64) {
     let name = index.to_string();
     let lent = lent(random);
-    match random.below(20) {
-        0..=9 => comparer.compare("streams", &name, &cases::stream(random), lent),
-        10..=16 => {
-            let whole = cases::stream(random);
-            comparer.compare("damaged", &name, &cases::damaged(whole, random), lent)
-        }
-        _ => comparer.compare("any", &name, &cases::any(random), lent),
+    // most streams stay in the Rust's domain
+    let rows = if random.chance(50) { &ROWS } else { SHARED_ROWS };
+    let (class, case) = match random.below(20) {
+        0..=9 => ("streams", cases::stream(rows, random)),
+        10..=16 => ("damaged", cases::damaged(cases::stream(rows, random), random)),
+        17 => return comparer.expect("checked products", &upper_halves::checked(random)),
+        _ => ("any", cases::any(random)),
     };
+    comparer.compare(class, &name, &case, lent);
 }
 
 fn main() {
