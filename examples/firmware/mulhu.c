@@ -1,4 +1,4 @@
-/* Wrong: the upper half of a 64-bit product is a MULHU. Refused with 9. (A division by a constant can become one too.) */
+/* The upper half of a 64-bit product is a MULHU. (A division by a constant can become one too.) */
 #include "handler.h"
 
 volatile unsigned tension;

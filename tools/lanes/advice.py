@@ -1,8 +1,10 @@
 """What to do about a refusal, in a sentence (docs/REFUSALS.md has the same at more length)."""
 import re
 
-MULTIPLY = ('{name} is the upper half of a product: GCC makes it of a 64-bit product, clang also of a division by a constant. Keep '
-            'products to 32 bits, and divide by a variable')
+SYSTEM = {
+    'ebreak': 'EBREAK stops for a debugger: GCC makes it of __builtin_trap and of a division by the constant 0. Record a fault and '
+              'return instead',
+    'ecall': 'ECALL calls an operating system, and there is none: record an event instead'}
 UNKNOWN = {
     1: 'code was written from a register that was never set',
     2: 'it jumps by a register that was never set on this way',
@@ -51,6 +53,6 @@ def advice(number, role, instruction, lent_rows, lent_steps):
         return f'it goes through {base[1]}, which is not set at entry: leave __global_pointer$ undefined when linking, or -Wl,--no-relax'
     if number in (6, 7):
         return (UNKNOWN if number == 6 else UNEVEN)[role].format(base=base[1] if base else 'a register')
-    if number == 9 and name.startswith('mulh'):
-        return MULTIPLY.format(name=name.upper())
+    if number == 9 and name in SYSTEM:
+        return SYSTEM[name]
     return PLAIN[number]
