@@ -72,8 +72,8 @@ signed-high : (a : ℕ) → 2 ^ 31 ≤ a → signed a ≡ negsuc (4294967296 - s
 signed-high a h = rw (le-ltb a 2147483648 h)
 
 -- an operand that is not negative takes nothing
-sub-zero : (x : ℕ) → x < 2 ^ 32 → sub x 0 ≡ x
-sub-zero x h = omega arith
+takes-nothing : (x : ℕ) → x < 2 ^ 32 → sub x 0 ≡ x
+takes-nothing x h = omega arith
 
 mulhu-fits : (a b : ℕ) → a < 2 ^ 32 → b < 2 ^ 32 → mulhu a b < 2 ^ 32
 mulhu-fits a b h g = omega (arith, below 32 h g)
@@ -83,7 +83,7 @@ pub mixed-halves : (a b : ℕ) → a < 2 ^ 32 → b < 2 ^ 32 → Halves (product
 mixed-halves a b h g = go (ltb a 2147483648) refl
   where
     go : (s : Bool) → ltb a 2147483648 ≡ s → Halves (product signed pos a b) (sub (mulhu a b) (cond s 0 b)) (mul a b)
-    go true e = rw (signed-low a (ltb-true _ _ e), sub-zero (mulhu a b) (mulhu-fits a b h g)) (neither-negative a b)
+    go true e = rw (signed-low a (ltb-true _ _ e), takes-nothing (mulhu a b) (mulhu-fits a b h g)) (neither-negative a b)
     go false e = rw (signed-high a (ltb-false _ _ e)) (one-negative a b _ h g refl)
 
 -- signed by signed
@@ -92,12 +92,12 @@ signed-halves a b h g = go (ltb a 2147483648) (ltb b 2147483648) refl refl
   where
     go : (s t : Bool) → ltb a 2147483648 ≡ s → ltb b 2147483648 ≡ t → Halves (product signed signed a b) (sub (sub (mulhu a b) (cond s 0 b)) (cond t 0 a)) (mul a b)
     go true true e f =
-        rw (signed-low a (ltb-true _ _ e), signed-low b (ltb-true _ _ f), sub-zero (mulhu a b) (mulhu-fits a b h g), sub-zero (mulhu a b) (mulhu-fits a b h g)) (neither-negative a b)
+        rw (signed-low a (ltb-true _ _ e), signed-low b (ltb-true _ _ f), takes-nothing (mulhu a b) (mulhu-fits a b h g), takes-nothing (mulhu a b) (mulhu-fits a b h g)) (neither-negative a b)
     go true false e f =
-        rw (signed-low a (ltb-true _ _ e), signed-high b (ltb-false _ _ f), sub-zero (mulhu a b) (mulhu-fits a b h g))
+        rw (signed-low a (ltb-true _ _ e), signed-high b (ltb-false _ _ f), takes-nothing (mulhu a b) (mulhu-fits a b h g))
         (rw (mul-comm b a) at (one-negative b a _ g h (mul-comm a (magnitude b))))
     go false true e f =
-        rw (signed-high a (ltb-false _ _ e), signed-low b (ltb-true _ _ f), sub-zero (sub (mulhu a b) b) (omega arith)) (one-negative a b _ h g refl)
+        rw (signed-high a (ltb-false _ _ e), signed-low b (ltb-true _ _ f), takes-nothing (sub (mulhu a b) b) (omega arith)) (one-negative a b _ h g refl)
     go false false e f =
         rw (signed-high a (ltb-false _ _ e), signed-high b (ltb-false _ _ f)) (both-negative a b h g (ltb-false _ _ e) (ltb-false _ _ f))
 

@@ -99,7 +99,7 @@ pub fn rv32_mul(a: u32, b: u32) -> u32
     (product % 0x1_0000_0000) as u32
 }
 
-// What the sign of one operand takes from the upper half of the unsigned product: the other operand, where it is negative.
+// What an operand that is read as signed takes from the upper half of the unsigned product: where it is negative, the other operand.
 fn sign_correction(operand: u32, other: u32) -> u32
     ensures { λ r. ⌜ r ≡ correction operand other ⌝ }
 {
