@@ -16,7 +16,7 @@ use Rattle.predicate_semantics.specs.Scalar as Scalar
 use Rattle.predicate_semantics.specs.Standing as Standing
 
 unfoldable pub expansion : Unit {0}
-unfolding Bits.signExtend Expansion.expand Expansion.quadrant0 Expansion.quadrant1 Expansion.cLi Expansion.place Expansion.cArithmetic Expansion.cOperations Expansion.quadrant2 Expansion.cRegisters
+unfolding Bits.signExtend Expansion.expand Expansion.quadrant0 Expansion.quadrant1 Expansion.place Expansion.cArithmetic Expansion.cOperations Expansion.quadrant2 Expansion.cRegisters
 expansion = tt
 
 unfoldable pub decoding : Unit {0}

@@ -4,11 +4,11 @@ use mathlib.Core.Bool.{Bool, true, false}
 use mathlib.Core.Option.{some, Option·some-injective}
 use Prim.Native.Nat.{ℕ, _<_, _%_, _^_}
 use native.Mathlib.Omega.{arith}
-use lib.Dec.{eqb, ltb}
+use lib.Dec.{eqb}
 use Rattle.riscv32imc.specs.declared.compressed.Expanded.{Expanded}
 use Rattle.riscv32imc.specs.declared.compressed.Expanded.the-variants.{Word, Refused}
 use Rattle.rv32_arithmetic.specs.Bits.{slice}
-use Rattle.riscv32imc.specs.Expansion.{funct3, rd, rs2, addi4spnImm, addi16spImm, luiImm, cAddi4spn, quadrant0, cLi, cAddi16sp, cLui, cShift, cOperations, cArithmetic, quadrant1, cSlli, cLwsp, cRegisters, quadrant2, expand}
+use Rattle.riscv32imc.specs.Expansion.{funct3, rd, rs2, addi4spnImm, addi16spImm, luiImm, cAddi4spn, quadrant0, cAddi16sp, cLui, cShift, cOperations, cArithmetic, quadrant1, cSlli, cLwsp, cRegisters, quadrant2, expand}
 use Rattle.predicate_semantics.specs.Standing.{expandedWord, standingCore}
 use Rattle.predicate_semantics.specs.RecordRules.{ExpandsToWords}
 
@@ -34,12 +34,6 @@ fits-quadrant0 h =
     (λ e. rw e (either (eqb (funct3 h) 6) (λ e. rw e (omega arith))
     (λ e. rw e tt)))))
 
-fits-cLi : (h : ℕ) → Fits (cLi h)
-unfolding cLi
-fits-cLi h =
-    either (eqb (rd h) 0) (λ e. rw e tt)
-    (λ e. rw e (omega arith))
-
 fits-cAddi16sp : (h : ℕ) → Fits (cAddi16sp h)
 unfolding cAddi16sp
 fits-cAddi16sp h =
@@ -49,9 +43,8 @@ fits-cAddi16sp h =
 fits-cLui : (h : ℕ) → Fits (cLui h)
 unfolding cLui
 fits-cLui h =
-    either (ltb (rd h) 2) (λ e. rw e tt)
-    (λ e. rw e (either (eqb (luiImm h) 0) (λ e. rw e tt)
-    (λ e. rw e (omega arith))))
+    either (eqb (luiImm h) 0) (λ e. rw e tt)
+    (λ e. rw e (omega arith))
 
 fits-cShift : (funct7 h : ℕ) → Fits (cShift funct7 h)
 unfolding cShift
@@ -78,7 +71,7 @@ unfolding quadrant1
 fits-quadrant1 h =
     either (eqb (funct3 h) 0) (λ e. rw e (omega arith))
     (λ e. rw e (either (eqb (funct3 h) 1) (λ e. rw e (omega arith))
-    (λ e. rw e (either (eqb (funct3 h) 2) (λ e. rw e (fits-cLi h))
+    (λ e. rw e (either (eqb (funct3 h) 2) (λ e. rw e (omega arith))
     (λ e. rw e (either (eqb (funct3 h) 3) (λ e. rw e (either (eqb (rd h) 2) (λ e. rw e (fits-cAddi16sp h)) (λ e. rw e (fits-cLui h))))
     (λ e. rw e (either (eqb (funct3 h) 4) (λ e. rw e (fits-cArithmetic h))
     (λ e. rw e (either (eqb (funct3 h) 5) (λ e. rw e (omega arith))
@@ -88,7 +81,7 @@ fits-quadrant1 h =
 fits-cSlli : (h : ℕ) → Fits (cSlli h)
 unfolding cSlli
 fits-cSlli h =
-    either (eqb (slice h 12 12) 0) (λ e. rw e (either (eqb (rd h) 0) (λ e. rw e tt) (λ e. rw e (omega arith))))
+    either (eqb (slice h 12 12) 0) (λ e. rw e (omega arith))
     (λ e. rw e tt)
 
 fits-cLwsp : (h : ℕ) → Fits (cLwsp h)
@@ -100,10 +93,9 @@ fits-cLwsp h =
 fits-cRegisters : (h : ℕ) → Fits (cRegisters h)
 unfolding cRegisters
 fits-cRegisters h =
-    either (eqb (slice h 12 12) 0) (λ e. rw e (either (eqb (rs2 h) 0) (λ e. rw e (either (eqb (rd h) 0) (λ e. rw e tt) (λ e. rw e (omega arith)))) (λ e. rw e (either (eqb (rd h) 0) (λ e. rw e tt) (λ e. rw e (omega arith))))))
+    either (eqb (slice h 12 12) 0) (λ e. rw e (either (eqb (rs2 h) 0) (λ e. rw e (either (eqb (rd h) 0) (λ e. rw e tt) (λ e. rw e (omega arith)))) (λ e. rw e (omega arith))))
     (λ e. rw e (either (eqb (rs2 h) 0) (λ e. rw e (either (eqb (rd h) 0) (λ e. rw e (omega arith)) (λ e. rw e (omega arith))))
-    (λ e. rw e (either (eqb (rd h) 0) (λ e. rw e tt)
-    (λ e. rw e (omega arith))))))
+    (λ e. rw e (omega arith))))
 
 fits-quadrant2 : (h : ℕ) → Fits (quadrant2 h)
 unfolding quadrant2

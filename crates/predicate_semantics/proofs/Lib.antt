@@ -10,6 +10,7 @@ pub mod Computing
 pub mod Cases
 pub mod Bound
 pub mod Order
+pub mod Hints
 pub mod Limits
 pub mod Always
 pub mod Written

@@ -105,8 +105,8 @@ cases =
     -- a trace entry short: 14; a word without a row comes before it: 9 (EBREAK)
     ∷ record { image = return1; entry = imageBase; rows = 200; entries = 1; outcome = refuses 14 0 1 }
     ∷ record { image = word 0x00100073; entry = imageBase; rows = 200; entries = 0; outcome = refuses 9 0 0 }
-    -- a branch that is taken (BEQ x0, x0, 6, past a C.LI into x0, which is refused), and one that is not (BNE x0, x0, 6)
-    ∷ plain (word 0x00000363 ++ half 0x4005 ++ return1) (accepts 1 3)
+    -- a branch that is taken (BEQ x0, x0, 6, past a C.JR of x0, which is refused), and one that is not (BNE x0, x0, 6)
+    ∷ plain (word 0x00000363 ++ half 0x8002 ++ return1) (accepts 1 3)
     ∷ plain (word 0x00001363 ++ return1) (accepts 1 3)
     -- slipped: testing JALR before clearing bit 0 (ANDI x11, x10, 1; C.ADD x11, x1; C.LI x10, 1; C.JR x11)
     ∷ plain (word 0x00157593 ++ half 0x9586 ++ half 0x4505 ++ half 0x8582) (accepts 1 4)

@@ -11,6 +11,7 @@ pub mod Guarantee
 pub mod Cases
 pub mod Bound
 pub mod Order
+pub mod Hints
 -- For proofs: rules that hold of every run, which the record's proofs cite, and what every step keeps, which the loop's do.
 pub mod RecordRules
 pub mod Kept

@@ -1,7 +1,7 @@
--- What a halfword expands to: the manual's RVC instruction listings in their order, with the refusals of document 01, Halfword and word.
+-- What a halfword expands to (Halfword and word): the manual's RVC instruction listings in their order; what is reserved there, or floating point, is refused.
 use mathlib.Core.Bool.{cond}
 use Prim.Native.Nat.{ℕ, _+_, _*_, _%_, _^_}
-use lib.Dec.{eqb, ltb}
+use lib.Dec.{eqb}
 use Rattle.rv32_arithmetic.specs.Bits.{slice, signExtend}
 use Rattle.riscv32imc.specs.Formats.{encodeI, encodeR, encodeS, encodeB, encodeU, encodeJ}
 use Rattle.riscv32imc.specs.declared.compressed.Expanded.{Expanded}
@@ -88,9 +88,9 @@ cJump link h = Word (encodeJ link (signExtend (jOffset h) 12))
 abbrev pub cJal : ℕ → Expanded
 cJal h = cJump 1 h
 
--- C.LI: addi rd, x0, imm; the hints, rd 0, are refused
-unfoldable pub cLi : ℕ → Expanded
-cLi h = cond (eqb (rd h) 0) Refused (Word (encodeI 0x13 0 (rd h) 0 (signExtend (addiImm h) 6)))
+-- C.LI: addi rd, x0, imm; its hints, rd 0, expand too
+abbrev pub cLi : ℕ → Expanded
+cLi h = Word (encodeI 0x13 0 (rd h) 0 (signExtend (addiImm h) 6))
 
 -- C.ADDI16SP: nzimm[9], nzimm[4|6|8:7|5]
 abbrev pub addi16spImm : ℕ → ℕ
@@ -104,11 +104,9 @@ cAddi16sp h = cond (eqb (addi16spImm h) 0) Refused (Word (encodeI 0x13 0 2 2 (si
 abbrev pub luiImm : ℕ → ℕ
 luiImm h = place h 12 12 17 + place h 6 2 12
 
--- C.LUI: lui rd, nzimm; the hints, rd 0, are refused, and so is rd 1; reserved with nzimm 0
+-- C.LUI: lui rd, nzimm; its hints, rd 0, expand too; reserved with nzimm 0, rd 0 included
 unfoldable pub cLui : ℕ → Expanded
-cLui h =
-    cond (ltb (rd h) 2) Refused
-    (cond (eqb (luiImm h) 0) Refused (Word (encodeU 0x37 (rd h) (signExtend (luiImm h) 18))))
+cLui h = cond (eqb (luiImm h) 0) Refused (Word (encodeU 0x37 (rd h) (signExtend (luiImm h) 18)))
 
 -- C.SRLI, C.SRAI: nzuimm[5], nzuimm[4:0]; not for RV32 with nzuimm[5] 1
 unfoldable pub cShift : ℕ → ℕ → Expanded
@@ -196,12 +194,9 @@ quadrant1 h =
     (cond (eqb (funct3 h) 6) (cBeqz h)
     (cBnez h)))))))
 
--- C.SLLI: slli rd, rd, nzuimm[5], nzuimm[4:0]; not for RV32 with nzuimm[5] 1; the hints, rd 0, are refused
+-- C.SLLI: slli rd, rd, nzuimm[5], nzuimm[4:0]; not for RV32 with nzuimm[5] 1; its hints, rd 0 or nzuimm 0, expand too
 unfoldable pub cSlli : ℕ → Expanded
-cSlli h =
-    cond (eqb (slice h 12 12) 0)
-    (cond (eqb (rd h) 0) Refused (Word (encodeI 0x13 1 (rd h) (rd h) (slice h 6 2))))
-    Refused
+cSlli h = cond (eqb (slice h 12 12) 0) (Word (encodeI 0x13 1 (rd h) (rd h) (slice h 6 2))) Refused
 
 -- C.LWSP: uimm[5], uimm[4:2|7:6]
 abbrev pub lwspOffset : ℕ → ℕ
@@ -215,9 +210,9 @@ cLwsp h = cond (eqb (rd h) 0) Refused (Word (encodeI 0x03 2 (rd h) 2 (lwspOffset
 abbrev pub cJr : ℕ → Expanded
 cJr h = cond (eqb (rd h) 0) Refused (Word (encodeI 0x67 0 0 (rd h) 0))
 
--- C.MV: add rd, x0, rs2; the hints, rd 0, are refused
+-- C.MV: add rd, x0, rs2; its hints, rd 0, expand too
 abbrev pub cMv : ℕ → Expanded
-cMv h = cond (eqb (rd h) 0) Refused (Word (encodeR 0 0 (rd h) 0 (rs2 h)))
+cMv h = Word (encodeR 0 0 (rd h) 0 (rs2 h))
 
 -- C.EBREAK: ebreak
 abbrev pub cEbreak : Expanded
@@ -227,9 +222,9 @@ cEbreak = Word 0x00100073
 abbrev pub cJalr : ℕ → Expanded
 cJalr h = Word (encodeI 0x67 0 1 (rd h) 0)
 
--- C.ADD: add rd, rd, rs2; the hints, rd 0, are refused
+-- C.ADD: add rd, rd, rs2; its hints, rd 0, expand too
 abbrev pub cAdd : ℕ → Expanded
-cAdd h = cond (eqb (rd h) 0) Refused (Word (encodeR 0 0 (rd h) (rd h) (rs2 h)))
+cAdd h = Word (encodeR 0 0 (rd h) (rd h) (rs2 h))
 
 -- the rows of funct3 100: by h[12], whether rs2 is 0, and whether rd/rs1 is
 unfoldable pub cRegisters : ℕ → Expanded

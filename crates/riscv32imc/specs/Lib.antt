@@ -1,4 +1,5 @@
--- To believe: the limits of memory, the instruction formats, and what a halfword expands to.
+-- To believe: the limits of memory, the instruction formats, and what a halfword expands to. Hints are claims.
 pub mod Constants
 pub mod Formats
 pub mod Expansion
+pub mod Hints

@@ -160,7 +160,7 @@ fn c_li(h: u32) -> Expanded
     ensures { λ r. ⌜ r ≡ cLi h ⌝ }
 {
     let rd = h / 128 % 32;
-    unless_zero(rd, encode_i(0x13, 0, rd, 0, sign_extend(addi_imm(h), 6)))
+    Expanded::Word(encode_i(0x13, 0, rd, 0, sign_extend(addi_imm(h), 6)))
 }
 
 fn c_addi16sp(h: u32) -> Expanded
@@ -174,9 +174,6 @@ fn c_lui(h: u32) -> Expanded
     ensures { λ r. ⌜ r ≡ cLui h ⌝ }
 {
     let rd = h / 128 % 32;
-    if rd < 2 {
-        return Expanded::Refused;
-    }
     let imm = lui_imm(h);
     unless_zero(imm, encode_u(0x37, rd, sign_extend(imm, 18)))
 }
@@ -275,7 +272,7 @@ fn c_slli(h: u32) -> Expanded
 {
     let rd = h / 128 % 32;
     if h / 4096 % 2 == 0 {
-        return unless_zero(rd, encode_i(0x13, 1, rd, rd, h / 4 % 32));
+        return Expanded::Word(encode_i(0x13, 1, rd, rd, h / 4 % 32));
     }
     Expanded::Refused
 }
@@ -297,7 +294,7 @@ fn c_registers(h: u32) -> Expanded
         if rs2 == 0 {
             return unless_zero(rd, encode_i(0x67, 0, 0, rd, 0));
         }
-        return unless_zero(rd, encode_r(0, 0, rd, 0, rs2));
+        return Expanded::Word(encode_r(0, 0, rd, 0, rs2));
     }
     if rs2 == 0 {
         if rd == 0 {
@@ -305,7 +302,7 @@ fn c_registers(h: u32) -> Expanded
         }
         return Expanded::Word(encode_i(0x67, 0, 1, rd, 0));
     }
-    unless_zero(rd, encode_r(0, 0, rd, rd, rs2))
+    Expanded::Word(encode_r(0, 0, rd, rd, rs2))
 }
 
 fn c_swsp(h: u32) -> Expanded

@@ -10,6 +10,5 @@ c-slli-spec =
     tie.close
     (tie.spec
     (λ c κs. search needs)
-    (λ c κs. search needs)
-    (λ c. rw (eq-eqb _ _ (c .before .before .if1 .taken), c .unless-zero .ensures, c .before .encode-i .ensures))
+    (λ c. rw (eq-eqb _ _ (c .before .if1 .taken), c .encode-i .ensures))
     (λ c. rw (ne-eqb _ _ (c .if1 .left))))
