@@ -122,6 +122,10 @@ pub fn c_li(rd: u32, imm: i32) -> u32 {
     0x4001 | (imm as u32 >> 5 & 1) << 12 | rd << 7 | (imm as u32 & 31) << 2
 }
 
+pub fn c_lui(rd: u32, imm: i32) -> u32 {
+    0x6001 | (imm as u32 >> 5 & 1) << 12 | rd << 7 | (imm as u32 & 31) << 2
+}
+
 pub fn c_addi(rd: u32, imm: i32) -> u32 {
     0x0001 | (imm as u32 >> 5 & 1) << 12 | rd << 7 | (imm as u32 & 31) << 2
 }

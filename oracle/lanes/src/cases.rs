@@ -2,6 +2,7 @@
 
 use crate::answer::Case;
 use crate::asm::*;
+use crate::hints;
 use crate::random::Random;
 
 /// Sets x3 to x31, but not x10, to addresses past the image or numbers, so that what follows finds known words.
@@ -108,12 +109,19 @@ enum Tag {
     Unknown,
 }
 
+/// Whose instructions a stream has: those that the Rust executes too, or all of the manual's.
+#[derive(Clone, Copy, PartialEq, Eq)]
+pub enum Domain {
+    Rust,
+    Manual,
+}
+
 const FRAME: usize = 64;
 const TEMPORARIES: [u32; 14] = [5, 6, 7, 11, 12, 13, 14, 15, 16, 17, 28, 29, 30, 31];
 
 struct Stream<'a> {
     random: &'a mut Random,
-    rows: &'a [Row],
+    domain: Domain,
     code: Code,
     tags: [Tag; 32],
     frame: [Tag; FRAME],
@@ -181,14 +189,30 @@ impl Stream<'_> {
         }
     }
 
+    /// A hint, or C.LUI into x1 and a use of it.
+    fn refused_by_rust(&mut self) {
+        if self.random.chance(70) {
+            let hint = hints::any(self.random);
+            return self.put(hint);
+        }
+        let (imm, rd) = (hints::immediate(self.random), self.temporary());
+        self.put(c_lui(1, imm));
+        self.put(c_mv(rd, 1));
+        self.tags[rd as usize] = Tag::Even;
+    }
+
     fn arithmetic(&mut self) {
+        if self.domain == Domain::Manual && self.random.chance(10) {
+            return self.refused_by_rust();
+        }
         let rd = self.temporary();
         let left = self.source();
         let right = self.source();
         let (mut a, mut b) = (self.tags[left as usize], self.tags[right as usize]);
         match self.random.below(8) {
             0..=2 => {
-                let rows: Vec<_> = self.rows.iter().filter(|row| row.0 == 0x33).collect();
+                let rows = if self.domain == Domain::Rust { SHARED_ROWS } else { &ROWS };
+                let rows: Vec<_> = rows.iter().filter(|row| row.0 == 0x33).collect();
                 let (_, funct3, funct7, _) = **self.random.pick(&rows);
                 self.put(r(funct7, funct3, rd, left, right));
             }
@@ -346,6 +370,9 @@ impl Stream<'_> {
         for _ in 0..self.random.below(3) {
             let value = self.random.within(-32, 31);
             written.put(if self.random.chance(50) { c_li(6, value) } else { addi(6, 0, value) });
+            if self.domain == Domain::Manual && self.random.chance(20) {
+                written.put(hints::any(self.random));
+            }
         }
         written.put(c_jr(9));
         while written.0.len() % 4 != 0 {
@@ -432,8 +459,7 @@ impl Stream<'_> {
 }
 
 /// A firmware that is mostly accepted: it saves x1, works on lanes, the stack and memory, records events, and returns.
-/// Its register operations are those of `rows`.
-pub fn stream(rows: &[Row], random: &mut Random) -> Case {
+pub fn stream(domain: Domain, random: &mut Random) -> Case {
     let event_count = 0x8015_0000 + 4 * random.below(0x100);
     let case = Case { entry: 0x8000_0000, event_count, events: event_count + 4 + random.below(64), image: Vec::new() };
     let careless = *random.pick(&[0, 0, 10, 40]);
@@ -443,7 +469,7 @@ pub fn stream(rows: &[Row], random: &mut Random) -> Case {
     let size = 400 + random.below(400) as usize;
     let (end, past_end) = (0x8000_0000 + size as u32, Tag::Even);
     let (code, frame, recorded) = (Code::default(), [Tag::Even; FRAME], 0);
-    let mut stream = Stream { random, rows, code, tags, frame, case, recorded, careless, end, past_end };
+    let mut stream = Stream { random, domain, code, tags, frame, case, recorded, careless, end, past_end };
     stream.put(addi(2, 2, -(FRAME as i32) - 16));
     stream.put(s(2, 2, 1, FRAME as i32 + 12));
     for rd in TEMPORARIES {

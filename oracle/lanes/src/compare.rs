@@ -2,12 +2,13 @@
 
 use crate::answer::{Accepted, Answer, Case};
 use crate::boundaries::AMPLE;
+use crate::known::Known;
+use crate::machine::Kind;
 use crate::model::Model;
 use crate::original::{self, Original};
 use crate::port::{ENTRY, Lent, Port, ROW};
 use crate::random::Random;
 use crate::scalar::Scalar;
-use crate::upper_halves::Known;
 use std::collections::BTreeMap;
 
 /// More than the entries that are lent to short runs.
@@ -19,8 +20,8 @@ pub enum Judge {
     Rust,
     /// The model, of a run longer than the Rust is asked for.
     Model,
-    /// The manual, of a run that fetches a word outside the Rust's domain.
-    Manual,
+    /// The manual, of a run that fetches what is outside the Rust's domain; the kind of the first.
+    Manual(Kind),
 }
 
 impl Judge {
@@ -28,7 +29,7 @@ impl Judge {
         match self {
             Self::Rust => "",
             Self::Model => ", by the model alone",
-            Self::Manual => ", by the manual alone",
+            Self::Manual(_) => ", by the manual alone",
         }
     }
 }
@@ -36,7 +37,8 @@ impl Judge {
 #[derive(Default)]
 pub struct Tally {
     pub cases: u64,
-    pub manual: u64,
+    /// Cases held to the manual alone, by what they fetch first of what is outside the Rust's domain.
+    pub manual: BTreeMap<Kind, u64>,
     pub kinds: BTreeMap<String, u64>,
     pub scalar_runs: u64,
     pub scalar_steps: u64,
@@ -70,9 +72,9 @@ const TOO_LARGE: Answer = Answer::Refused { number: 1, role: 0, steps: 0 };
 /// Whether the Rust says what the model does, and decoded as many words as the model's steps need.
 fn agreed(original: &Original, model: &Answer) -> bool {
     match (&original.result, model) {
-        (Ok(result), Answer::Accepted(found)) => result == found && original.decoded as usize == result.trace.len(),
+        (Ok(result), Answer::Accepted(found)) => result == found && original.decoded.count as usize == result.trace.len(),
         (Err((number, role)), Answer::Refused { number: n, role: r, steps }) => {
-            let begun = original.decoded.wrapping_sub(*steps);
+            let begun = original.decoded.count.wrapping_sub(*steps);
             let last = match (number, role) {
                 (1 | 2 | 3 | 8 | 12, _) | (_, 1 | 6..) => begun == 0,
                 (4 | 5, _) => begun <= 1,
@@ -82,6 +84,14 @@ fn agreed(original: &Original, model: &Answer) -> bool {
         }
         _ => false,
     }
+}
+
+/// How many cases the Rust doesn't judge, and by what they fetch first.
+fn held_to_manual(manual: &BTreeMap<Kind, u64>) -> String {
+    let count = |kind| manual.get(&kind).copied().unwrap_or(0);
+    let (product, hint, lui) = (count(Kind::Product), count(Kind::Hint), count(Kind::LuiX1));
+    let all = product + hint + lui;
+    format!("{all} held to the manual alone (MULH, MULHSU or MULHU {product}, hints {hint}, C.LUI into x1 {lui})")
 }
 
 /// Whether the library has the program's limit.
@@ -117,11 +127,11 @@ impl Comparer {
 
     /// The Rust's answer with the steps of a refusal, which the model tells and the count of decoded words confirms.
     /// A run above `patience` steps is 14 here: the model alone tells it, since most such runs go in circles.
-    /// Where the model fetched a word outside the Rust's domain the answer is the model's, and the Rust must be refused at that word.
+    /// Where the model fetched what is outside the Rust's domain the answer is the model's, and the Rust must be refused there.
     fn judged(&mut self, case: &Case) -> Result<Answer, String> {
         let model = self.model.run(case, usize::MAX, self.patience);
         self.judge = match (self.model.outside, &model) {
-            (Some(_), _) => Judge::Manual,
+            (Some(outside), _) => Judge::Manual(outside.kind),
             (None, Answer::Refused { number: 14, .. }) => Judge::Model,
             _ => Judge::Rust,
         };
@@ -133,7 +143,7 @@ impl Comparer {
             return Ok(model);
         }
         let said = original.result.map(|result| result.trace.len());
-        Err(format!("the Rust says {said:?} ({}) after {} words, the model {}", original.text, original.decoded, model.kind()))
+        Err(format!("the Rust says {said:?} ({}) after {} words, the model {}", original.text, original.decoded.count, model.kind()))
     }
 
     /// Feeds a case to the Rust, the model and the port, and an accepted one to the scalar run; gives the judge's answer.
@@ -147,7 +157,9 @@ impl Comparer {
         };
         let tally = self.classes.entry(class.into()).or_default();
         tally.cases += 1;
-        tally.manual += (self.judge == Judge::Manual) as u64;
+        if let Judge::Manual(kind) = self.judge {
+            *tally.manual.entry(kind).or_default() += 1;
+        }
         match found.and_then(|kind| Ok((kind, scalars?))) {
             Ok((kind, (runs, steps))) => {
                 *tally.kinds.entry(kind).or_default() += 1;
@@ -165,7 +177,7 @@ impl Comparer {
         answer
     }
 
-    /// Compares a case that was worked out by hand, and holds judge and outcome against that.
+    /// Compares a case that was worked out by hand, and holds judge, outcome and words against that.
     pub fn expect(&mut self, class: &str, known: &Known) {
         let before = self.differences();
         let Some(answer) = self.compare(class, &known.name, &known.case, AMPLE) else { return };
@@ -173,10 +185,11 @@ impl Comparer {
             Answer::Accepted(result) => Ok(result.return_value),
             Answer::Refused { number, role, .. } => Err((number, role)),
         };
-        if self.differences() == before && (self.judge, outcome) != (known.judge, known.outcome) {
+        let words = known.words.as_ref().map(|_| self.model.trace.iter().map(|step| step[1]).collect());
+        let (found, expected) = ((self.judge, outcome, words), (known.judge, known.outcome, known.words.clone()));
+        if self.differences() == before && found != expected {
             self.classes.entry(class.into()).or_default().differences += 1;
-            self.told
-                .push(format!("{class} {}: {outcome:x?} by {:?}, not {:x?} by {:?}", known.name, self.judge, known.outcome, known.judge));
+            self.told.push(format!("{class} {}: {found:x?}, not {expected:x?}", known.name));
         }
     }
 
@@ -254,7 +267,7 @@ impl Comparer {
             (6..256).try_for_each(|input| run(&mut self.scalar, input, filling))?;
         }
         if rounds == 0 {
-            let inputs = if self.judge == Judge::Manual { (6..256).collect() } else { vec![6, 7, 128, 254, 255] };
+            let inputs = if matches!(self.judge, Judge::Manual(_)) { (6..256).collect() } else { vec![6, 7, 128, 254, 255] };
             for (index, input) in inputs.into_iter().enumerate() {
                 run(&mut self.scalar, input, &fillings[index % fillings.len()])?;
             }
@@ -283,14 +296,22 @@ impl Comparer {
         for (class, tally) in &self.classes {
             let kinds: Vec<String> = tally.kinds.iter().map(|(kind, count)| format!("{kind}: {count}")).collect();
             println!(
-                "{class}: {} cases, {} differences, {} held to the manual alone, {} scalar runs ({} steps)",
-                tally.cases, tally.differences, tally.manual, tally.scalar_runs, tally.scalar_steps
+                "{class}: {} cases, {} differences, {}, {} scalar runs ({} steps)",
+                tally.cases,
+                tally.differences,
+                held_to_manual(&tally.manual),
+                tally.scalar_runs,
+                tally.scalar_steps
             );
             println!("    {}", kinds.join(", "));
         }
         let sum = |count: fn(&Tally) -> u64| self.classes.values().map(count).sum::<u64>();
-        let (cases, manual, runs) = (sum(|tally| tally.cases), sum(|tally| tally.manual), sum(|tally| tally.scalar_runs));
-        println!("{cases} cases, {} differences, {manual} held to the manual alone, {runs} scalar runs", self.differences());
+        let (cases, runs) = (sum(|tally| tally.cases), sum(|tally| tally.scalar_runs));
+        let mut manual = BTreeMap::new();
+        for (kind, count) in self.classes.values().flat_map(|tally| &tally.manual) {
+            *manual.entry(*kind).or_default() += count;
+        }
+        println!("{cases} cases, {} differences, {}, {runs} scalar runs", self.differences(), held_to_manual(&manual));
         self.told.iter().for_each(|told| println!("DIFFERENCE {told}"));
     }
 }

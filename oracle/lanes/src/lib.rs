@@ -1,5 +1,5 @@
 //! The lane run three times over: the Rust's own files, unchanged; the port, linked as a static library; and a model written from
-//! document 01, for what the Rust doesn't say (steps of a refusal, lent memory) and for the words that it refuses against the manual.
+//! document 01, for what the Rust doesn't say (steps of a refusal, lent memory) and for what it refuses against the manual.
 //! With it demand 3's scalar run, and cases for all.
 
 include!(concat!(env!("OUT_DIR"), "/sources.rs"));
@@ -9,6 +9,8 @@ pub mod asm;
 pub mod boundaries;
 pub mod cases;
 pub mod compare;
+pub mod hints;
+pub mod known;
 pub mod machine;
 pub mod model;
 pub mod original;

@@ -1,5 +1,6 @@
 //! What the model and the scalar run share: the limits of memory and what an instruction asks for, by the manual.
 
+use crate::asm::{addi, i, lui, r};
 use crate::riscv32imc::decompress;
 use riscv_decode::{Instruction, decode};
 
@@ -30,9 +31,22 @@ pub fn length(halfword: u32) -> u32 {
     if halfword & 3 == 3 { 4 } else { 2 }
 }
 
+/// The manual's word for a halfword that it has and the Rust refuses: a hint, or C.LUI into x1.
+fn refused_expansion(halfword: u32) -> Option<u32> {
+    let (rd, rs2, bit_12) = (halfword >> 7 & 31, halfword >> 2 & 31, halfword >> 12 & 1);
+    let immediate = signed(bit_12 << 5 | rs2, 6);
+    match (halfword & 3, halfword >> 13, rd) {
+        (1, 2, 0) => Some(addi(rd, 0, immediate as i32)),
+        (1, 3, 0 | 1) if immediate != 0 => Some(lui(rd, immediate << 12)),
+        (2, 0, 0) if bit_12 == 0 => Some(i(0x13, 1, rd, rd, rs2 as i32)),
+        (2, 4, 0) if rs2 != 0 => Some(r(0, 0, rd, if bit_12 == 0 { 0 } else { rd }, rs2)),
+        _ => None,
+    }
+}
+
 /// A halfword's word, or refusal 8.
 pub fn expand(halfword: u32) -> Result<u32, u8> {
-    decompress(halfword as u16).map_err(|_| 8)
+    refused_expansion(halfword).map_or_else(|| decompress(halfword as u16).map_err(|_| 8), Ok)
 }
 
 /// Refusal 4 or 5, or the address from the start of memory.
@@ -164,9 +178,25 @@ pub fn action(word: u32, pc: u32) -> Result<Action, u8> {
     })
 }
 
-/// Whether the manual has a word that the Rust refuses: MULH, MULHSU, MULHU. A run that fetches one is outside the Rust's domain.
-pub fn outside(word: u32) -> bool {
-    matches!(decode(word), Ok(Instruction::Mulh(_) | Instruction::Mulhsu(_) | Instruction::Mulhu(_)))
+/// What the manual has and the Rust refuses. A run that fetches one is outside the Rust's domain.
+#[derive(Clone, Copy, Debug, PartialEq, Eq, PartialOrd, Ord)]
+pub enum Kind {
+    /// MULH, MULHSU, MULHU.
+    Product,
+    /// C.LI, C.LUI, C.SLLI, C.MV, C.ADD with rd 0.
+    Hint,
+    /// C.LUI into x1.
+    LuiX1,
+}
+
+/// The kind of a fetched halfword or word that is outside the Rust's domain.
+pub fn outside(fetched: u32) -> Option<Kind> {
+    if length(fetched) == 2 {
+        let into_x0 = fetched >> 7 & 31 == 0;
+        return refused_expansion(fetched).map(|_| if into_x0 { Kind::Hint } else { Kind::LuiX1 });
+    }
+    let product = matches!(decode(fetched), Ok(Instruction::Mulh(_) | Instruction::Mulhsu(_) | Instruction::Mulhu(_)));
+    product.then_some(Kind::Product)
 }
 
 /// A loaded value, filled by its sign or by zeros.

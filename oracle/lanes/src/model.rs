@@ -1,9 +1,10 @@
 //! Document 01's lane run with lent memory, for what the Rust doesn't say: the completed steps of a refusal, refusals 13 and 14,
-//! and the trace up to a refusal. The Rust stays the judge, and a model that differs from it is wrong, up to the first word outside the
-//! Rust's domain; from there on the model follows the manual.
+//! and the trace up to a refusal. The Rust stays the judge, and a model that differs from it is wrong, up to the first instruction outside
+//! the Rust's domain; from there on the model follows the manual.
 
 use crate::answer::{Accepted, Answer, Case, Step};
 use crate::machine::*;
+use riscv_decode::Words;
 
 const LANES: usize = 250;
 
@@ -37,12 +38,13 @@ impl Lanes {
     }
 }
 
-/// The first fetched word that is outside the Rust's domain, and the steps completed before it.
+/// The first fetched halfword or word that is outside the Rust's domain, and the words of the steps completed before it.
 #[derive(Clone, Copy, Debug)]
 pub struct Outside {
+    pub kind: Kind,
     pub pc: u32,
-    pub word: u32,
-    pub steps: u32,
+    pub fetched: u32,
+    pub before: Words,
 }
 
 /// Written bytes: which cell holds an address (0: none), and the cells.
@@ -147,12 +149,17 @@ impl Model {
         self.finish(case, &x[10])
     }
 
-    fn fetch(&self, case: &Case, pc: u32) -> Result<(u32, u32), Refusal> {
+    /// The word and its length.
+    fn fetch(&mut self, case: &Case, pc: u32) -> Result<(u32, u32), Refusal> {
         let low = self.load(&case.image, pc, 2)?.uniform(1)?;
-        match length(low) {
-            2 => Ok((expand(low).map_err(plain)?, 2)),
-            bytes => Ok((self.load(&case.image, pc, 4)?.uniform(1)?, bytes)),
+        let bytes = length(low);
+        let fetched = if bytes == 2 { low } else { self.load(&case.image, pc, 4)?.uniform(1)? };
+        if let (None, Some(kind)) = (self.outside, outside(fetched)) {
+            let before = self.trace.iter().fold(Words::default(), |words, step| words.and(step[1]));
+            self.outside = Some(Outside { kind, pc, fetched, before });
         }
+        let word = if bytes == 2 { expand(fetched).map_err(plain)? } else { fetched };
+        Ok((word, bytes))
     }
 
     fn step(&mut self, case: &Case, pc: u32, x: &mut [Lanes; 32], rows: usize, entries: usize) -> Result<u32, Refusal> {
@@ -160,9 +167,6 @@ impl Model {
             return Err((3, 0));
         }
         let (word, bytes) = self.fetch(case, pc)?;
-        if self.outside.is_none() && outside(word) {
-            self.outside = Some(Outside { pc, word, steps: self.trace.len() as u32 });
-        }
         let mut next = pc.wrapping_add(bytes);
         let mut set = (0, Lanes::constant(0));
         let mut put = None;

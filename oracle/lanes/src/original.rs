@@ -1,23 +1,30 @@
 //! The Rust's answer, its texts mapped to document 01's numbers and roles.
 
 use crate::answer::{Accepted, Case};
+use crate::machine::length;
 use crate::model::Outside;
-use crate::riscv32imc::Rv32SymbolLayout;
+use crate::riscv32imc::{Rv32SymbolLayout, decompress};
 use crate::riscv32imc_predicate::execute_invalid_channel_predicate;
+use riscv_decode::Words;
 
-/// The result, or number and role; a refusal's own text; and how many words were decoded.
+/// The result, or number and role; a refusal's own text; and the words that were decoded.
 pub struct Original {
     pub result: Result<Accepted, (u8, u8)>,
     pub text: String,
-    pub decoded: u32,
+    pub decoded: Words,
 }
 
 impl Original {
-    /// Whether the run was refused at this word and no earlier: the text has its address and its fields, the count its step.
+    /// Whether the run was refused at this halfword or word and no earlier: it decoded the words of the steps before, and of a word
+    /// that too. The text has a word's address and its fields; of a halfword it is what `decompress` says of that one.
     pub fn refused_at(&self, outside: &Outside) -> bool {
-        let instruction = riscv_decode::decode(outside.word).expect("the manual has the word");
-        let text = format!("{OWN}unsupported instruction at 0x{:08x}: {instruction:?}", outside.pc);
-        self.text == text && self.decoded == outside.steps + 1
+        let Outside { pc, fetched, before, .. } = *outside;
+        if length(fetched) == 2 {
+            return decompress(fetched as u16).is_err_and(|error| self.text == error.0) && self.decoded == before;
+        }
+        let instruction = riscv_decode::decode(fetched).expect("the manual has the word");
+        let text = format!("{OWN}unsupported instruction at 0x{pc:08x}: {instruction:?}");
+        self.text == text && self.decoded == before.and(fetched)
     }
 }
 
@@ -79,9 +86,9 @@ pub fn number_of(text: &str) -> (u8, u8) {
 
 pub fn run(case: &Case) -> Original {
     let symbols = Rv32SymbolLayout { entry: case.entry, event_count: case.event_count, events: case.events };
-    riscv_decode::calls();
+    riscv_decode::given();
     let result = execute_invalid_channel_predicate(&case.image, symbols);
-    let decoded = riscv_decode::calls() as u32;
+    let decoded = riscv_decode::given();
     let text = result.as_ref().err().map_or(String::new(), |error| error.0.clone());
     let result = result.map_err(|error| number_of(&error.0)).map(|found| {
         assert!(found.first_input == 6 && found.lane_count == 250);

@@ -3,15 +3,11 @@
 use crate::answer::Case;
 use crate::asm::*;
 use crate::compare::Judge;
+use crate::known::{Known, List, Outcome};
+use crate::machine::Kind;
 use crate::random::Random;
 
-pub struct Known {
-    pub name: String,
-    pub case: Case,
-    pub judge: Judge,
-    /// The return value, or number and role.
-    pub outcome: Result<u32, (u8, u8)>,
-}
+const MANUAL: Judge = Judge::Manual(Kind::Product);
 
 /// Two operands and their MULH, MULHSU, MULHU. The first five are those of the published tests that tell the signings apart.
 pub const PAIRS: [(u32, u32, [u32; 3]); 14] = [
@@ -38,25 +34,14 @@ fn upper(which: usize, rd: u32, rs1: u32, rs2: u32) -> u32 {
     r(1, 1 + which as u32, rd, rs1, rs2)
 }
 
-#[derive(Default)]
-struct List(Vec<Known>);
-
-impl List {
-    fn add(&mut self, name: String, judge: Judge, outcome: Result<u32, (u8, u8)>, build: impl FnOnce(&mut Code)) {
-        let mut code = Code::default();
-        build(&mut code);
-        self.0.push(Known { name, case: Case::plain(code.0), judge, outcome });
-    }
-
-    /// x10's upper half by x5 and x5's by x10, returned; `made` is what x10 becomes first.
-    fn lanes(&mut self, name: &str, made: &[u32], factor: u32, outcomes: [[Result<u32, (u8, u8)>; 2]; 3]) {
-        for (which, both) in outcomes.into_iter().enumerate() {
-            for (order, outcome) in both.into_iter().enumerate() {
-                let (rs1, rs2) = if order == 0 { (10, 5) } else { (5, 10) };
-                self.add(format!("{} x{rs1}, x{rs2}: {name} and {factor:x}", NAMES[which]), Judge::Manual, outcome, |code| {
-                    code.all(made).constant(5, factor).put(upper(which, 10, rs1, rs2)).put(RET);
-                });
-            }
+/// x10's upper half by x5 and x5's by x10, returned; `made` is what x10 becomes first.
+fn both_orders(list: &mut List, name: &str, made: &[u32], factor: u32, outcomes: [[Outcome; 2]; 3]) {
+    for (which, both) in outcomes.into_iter().enumerate() {
+        for (order, outcome) in both.into_iter().enumerate() {
+            let (rs1, rs2) = if order == 0 { (10, 5) } else { (5, 10) };
+            list.add(format!("{} x{rs1}, x{rs2}: {name} and {factor:x}", NAMES[which]), MANUAL, outcome, |code| {
+                code.all(made).constant(5, factor).put(upper(which, 10, rs1, rs2)).put(RET);
+            });
         }
     }
 }
@@ -66,7 +51,7 @@ fn pairs(list: &mut List) {
     for (left, right, results) in PAIRS {
         for (which, result) in results.into_iter().enumerate() {
             for rd in [10, 5, 6] {
-                list.add(format!("{} of {left:08x} and {right:08x} into x{rd}", NAMES[which]), Judge::Manual, Ok(result), |code| {
+                list.add(format!("{} of {left:08x} and {right:08x} into x{rd}", NAMES[which]), MANUAL, Ok(result), |code| {
                     code.constant(5, left).constant(6, right).put(upper(which, rd, 5, 6)).put(addi(10, rd, 0)).put(RET);
                 });
             }
@@ -74,34 +59,34 @@ fn pairs(list: &mut List) {
     }
 }
 
-const UNEVEN: Result<u32, (u8, u8)> = Err((7, 6));
+const UNEVEN: Outcome = Err((7, 6));
 
 /// Lanes that differ, whose upper halves do or don't.
 fn lanes(list: &mut List) {
     let (zero, ones) = (Ok(0), Ok(0xffff_ffff));
-    list.lanes("the input", &[], 3, [[zero; 2]; 3]);
+    both_orders(list, "the input", &[], 3, [[zero; 2]; 3]);
     // 255 times 01010101 is the largest product below 2^32; with one more the last lane alone is past it
-    list.lanes("the input", &[], 0x0101_0101, [[zero; 2]; 3]);
-    list.lanes("the input", &[], 0x0101_0102, [[UNEVEN; 2]; 3]);
+    both_orders(list, "the input", &[], 0x0101_0101, [[zero; 2]; 3]);
+    both_orders(list, "the input", &[], 0x0101_0102, [[UNEVEN; 2]; 3]);
     // -1 as a signed factor leaves the sign alone, as an unsigned one the input less 1
-    list.lanes("the input", &[], 0xffff_ffff, [[ones; 2], [UNEVEN, ones], [UNEVEN; 2]]);
+    both_orders(list, "the input", &[], 0xffff_ffff, [[ones; 2], [UNEVEN, ones], [UNEVEN; 2]]);
     // from input 128 on the sign is set
     let shifted = [c_slli(10, 24)];
-    list.lanes("the input's byte on top", &shifted, 1, [[UNEVEN; 2], [UNEVEN, zero], [zero; 2]]);
-    list.lanes("the input's byte on top", &shifted, 0, [[zero; 2]; 3]);
+    both_orders(list, "the input's byte on top", &shifted, 1, [[UNEVEN; 2], [UNEVEN, zero], [zero; 2]]);
+    both_orders(list, "the input's byte on top", &shifted, 0, [[zero; 2]; 3]);
     for (which, name) in NAMES.into_iter().enumerate() {
-        list.add(format!("{name} of the input and itself"), Judge::Manual, zero, |code| {
+        list.add(format!("{name} of the input and itself"), MANUAL, zero, |code| {
             code.all(&[upper(which, 10, 10, 10), RET]);
         });
-        list.add(format!("{name} of the input's byte on top and itself"), Judge::Manual, UNEVEN, |code| {
+        list.add(format!("{name} of the input's byte on top and itself"), MANUAL, UNEVEN, |code| {
             code.all(&[c_slli(10, 24), upper(which, 10, 10, 10), RET]);
         });
         // an even upper half of differing lanes, as an address, a jump's target and a branch's operand
-        list.add(format!("{name} in addresses and control"), Judge::Manual, Ok(1), |code| {
+        list.add(format!("{name} in addresses and control"), MANUAL, Ok(1), |code| {
             code.constant(5, 0x8010_0000).all(&[upper(which, 6, 10, 10), c_add(5, 6), s(2, 5, 10, 0), load(2, 7, 5, 0)]);
             code.all(&[b(1, 6, 0, 8), c_add(6, 1), 0x4505, jalr(0, 6, 0)]);
         });
-        list.add(format!("{name} of differing lanes as an address"), Judge::Manual, Err((7, 3)), |code| {
+        list.add(format!("{name} of differing lanes as an address"), MANUAL, Err((7, 3)), |code| {
             code.all(&[c_slli(10, 24), upper(which, 6, 10, 10), load(2, 7, 6, 0)]);
         });
     }
@@ -111,14 +96,14 @@ fn lanes(list: &mut List) {
 fn unknown(list: &mut List) {
     for (which, name) in NAMES.into_iter().enumerate() {
         for (left, right) in [(11, 10), (10, 11), (11, 0), (0, 11), (11, 11)] {
-            list.add(format!("{name} of x{left} and x{right}, returned"), Judge::Manual, Err((6, 6)), |code| {
+            list.add(format!("{name} of x{left} and x{right}, returned"), MANUAL, Err((6, 6)), |code| {
                 code.all(&[upper(which, 10, left, right), RET]);
             });
-            list.add(format!("{name} of x{left} and x{right} into x0"), Judge::Manual, Ok(0), |code| {
+            list.add(format!("{name} of x{left} and x{right} into x0"), MANUAL, Ok(0), |code| {
                 code.all(&[upper(which, 0, left, right), addi(10, 0, 0), RET]);
             });
         }
-        list.add(format!("{name} of -1 and -1 into x0"), Judge::Manual, Ok(0), |code| {
+        list.add(format!("{name} of -1 and -1 into x0"), MANUAL, Ok(0), |code| {
             code.all(&[addi(5, 0, -1), upper(which, 0, 5, 5), addi(10, 0, 0), RET]);
         });
     }
@@ -128,7 +113,7 @@ fn unknown(list: &mut List) {
 fn places(list: &mut List) {
     for (which, name) in NAMES.into_iter().enumerate() {
         let word = upper(which, 10, 6, 6);
-        list.add(format!("{name} of written code"), Judge::Manual, Ok([0, 0xffff_ffff, 0xffff_fffe][which]), |code| {
+        list.add(format!("{name} of written code"), MANUAL, Ok([0, 0xffff_ffff, 0xffff_fffe][which]), |code| {
             code.constant(5, 0x8010_0000).constant(6, word).put(s(2, 5, 6, 0)).constant(6, RET).put(s(2, 5, 6, 4));
             code.all(&[addi(6, 0, -1), jalr(0, 5, 0)]);
         });
@@ -183,7 +168,7 @@ pub fn checked(random: &mut Random) -> Known {
     operand(&mut code, 5, random);
     operand(&mut code, 6, random);
     code.all(&by_halves(which)).all(&[upper(which, 10, 5, 6), r(0x20, 0, 10, 10, 11), RET]);
-    Known { name: format!("{} and halves", NAMES[which]), case: Case::plain(code.0), judge: Judge::Manual, outcome: Ok(0) }
+    Known { name: format!("{} and halves", NAMES[which]), case: Case::plain(code.0), judge: MANUAL, outcome: Ok(0), words: None }
 }
 
 pub fn known() -> Vec<Known> {

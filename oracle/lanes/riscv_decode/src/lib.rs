@@ -1,6 +1,6 @@
 //! A STAND-IN for the crate `riscv_decode`, which the Rust's files import and which cannot be had here.
 //! It is written from the RISC-V Unprivileged ISA manual (RV32I, M, Zifencei) and says nothing of that crate's own answers.
-//! It counts its calls, since the Rust's refusals don't say how many steps were completed.
+//! It keeps account of the words it is given, since the Rust's refusals don't say which steps were completed.
 
 use std::cell::Cell;
 
@@ -96,16 +96,29 @@ pub enum Instruction {
 pub struct NoInstruction;
 
 thread_local! {
-    static CALLS: Cell<u64> = const { Cell::new(0) };
+    static GIVEN: Cell<Words> = const { Cell::new(Words { count: 0, digest: 0 }) };
 }
 
-/// How often `decode` was called on this thread since the last time this was asked.
-pub fn calls() -> u64 {
-    CALLS.replace(0)
+/// Some words in order: how many, and a digest of them (FNV-1a, a word at a time).
+#[derive(Clone, Copy, Debug, Default, PartialEq, Eq)]
+pub struct Words {
+    pub count: u32,
+    digest: u64,
+}
+
+impl Words {
+    pub fn and(self, word: u32) -> Self {
+        Self { count: self.count + 1, digest: (self.digest ^ u64::from(word)).wrapping_mul(0x100_0000_01b3) }
+    }
+}
+
+/// What `decode` was given on this thread since the last time this was asked.
+pub fn given() -> Words {
+    GIVEN.take()
 }
 
 pub fn decode(word: u32) -> Result<Instruction, NoInstruction> {
-    CALLS.set(CALLS.get() + 1);
+    GIVEN.set(GIVEN.get().and(word));
     of(word).ok_or(NoInstruction)
 }
 

@@ -1,14 +1,14 @@
 //! answers: some hundred of the Rust's answers, to standard output, for a program to replay with 200 rows and 2,048 entries.
 //! All numbers are little-endian u32. First the number of cases; then for each the length of its input and the input (entry, event
 //! count, events, image: what `lane-run` reads), the length of its record and the record. No answer needs more memory than that, so
-//! none is 13 or 14; nor 3, which takes 1,000,000 entries; nor does any run fetch a word outside the Rust's domain. How many there are of
+//! none is 13 or 14; nor 3, which takes 1,000,000 entries; nor does any run fetch what is outside the Rust's domain. How many there are of
 //! each kind goes to standard error.
 
 use lanes::answer::{Answer, Case};
-use lanes::asm::SHARED_ROWS;
 use lanes::boundaries;
-use lanes::cases;
+use lanes::cases::{self, Domain};
 use lanes::compare::{Comparer, Judge};
+use lanes::machine::Kind;
 use lanes::port::{ENTRY, Lent, ROW};
 use lanes::random::Random;
 use std::collections::BTreeMap;
@@ -34,13 +34,16 @@ impl List {
             return;
         }
         let Some(answer) = self.comparer.compare(source, "", case, LENT) else { return };
-        let outside = self.comparer.judge == Judge::Manual;
         let brief = match &answer {
             Answer::Refused { number, .. } => *number < 13,
             Answer::Accepted(result) => result.trace.len() <= 100,
         };
-        // outside its domain the Rust says 9: counted as that, so that none is taken in its place and the list's others stay
-        let kind = if outside { "9".into() } else { answer.kind() };
+        // outside its domain the Rust says 8 or 9: counted as that, so that none is taken in its place and the list's others stay
+        let (outside, kind) = match self.comparer.judge {
+            Judge::Manual(Kind::Product) => (true, "9".into()),
+            Judge::Manual(Kind::Hint | Kind::LuiX1) => (true, "8".into()),
+            _ => (false, answer.kind()),
+        };
         let taken = self.kinds.entry(format!("{source} {kind}")).or_default();
         if (outside || brief && self.comparer.enough) && *taken < if kind == "accepted" { ACCEPTED } else { OF_A_KIND } {
             *taken += 1;
@@ -62,7 +65,7 @@ fn main() -> std::io::Result<()> {
         bounds.iter().skip(start).step_by(7).for_each(|bound| list.offer("edge", &bound.case));
     }
     for _ in 0..2_000 {
-        let case = cases::stream(SHARED_ROWS, random);
+        let case = cases::stream(Domain::Rust, random);
         list.offer("stream", &case);
         list.offer("damaged", &cases::damaged(case, random));
     }

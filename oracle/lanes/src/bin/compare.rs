@@ -2,10 +2,11 @@
 //! CASES from the seed, mostly streams and damaged copies of them. BUDGET: scalar steps for one accepted image. CLASSES: some of
 //! boundaries,steps,halfwords,flips,seeded. Ends with status 1 where anything differs.
 
-use lanes::asm::{ROWS, SHARED_ROWS};
+use lanes::asm::ROWS;
 use lanes::boundaries::{self, AMPLE};
-use lanes::cases;
+use lanes::cases::{self, Domain};
 use lanes::compare::{Comparer, PATIENCE};
+use lanes::hints;
 use lanes::port::{ENTRY, Lent, ROW};
 use lanes::random::Random;
 use lanes::upper_halves;
@@ -16,6 +17,7 @@ fn edges(comparer: &mut Comparer) {
         comparer.compare("boundaries", &bound.name, &bound.case, bound.lent);
     }
     upper_halves::known().iter().for_each(|known| comparer.expect("upper halves", known));
+    hints::known().iter().for_each(|known| comparer.expect("hints", known));
 }
 
 fn steps(comparer: &mut Comparer) {
@@ -65,10 +67,10 @@ fn seeded(comparer: &mut Comparer, random: &mut Random, index: u64) {
     let name = index.to_string();
     let lent = lent(random);
     // most streams stay in the Rust's domain
-    let rows = if random.chance(50) { &ROWS } else { SHARED_ROWS };
+    let domain = if random.chance(50) { Domain::Manual } else { Domain::Rust };
     let (class, case) = match random.below(20) {
-        0..=9 => ("streams", cases::stream(rows, random)),
-        10..=16 => ("damaged", cases::damaged(cases::stream(rows, random), random)),
+        0..=9 => ("streams", cases::stream(domain, random)),
+        10..=16 => ("damaged", cases::damaged(cases::stream(domain, random), random)),
         17 => return comparer.expect("checked products", &upper_halves::checked(random)),
         _ => ("any", cases::any(random)),
     };
