@@ -34,7 +34,8 @@ PLAIN = {
     3: 'it loops, or is too long: the last steps show where',
     4: 'only memory, 80000000 to 801fffff, can be reached: a device register is not there, and a null pointer neither',
     5: 'only memory, 80000000 to 801fffff, can be reached: is the stack or a table too large?',
-    8: 'compile with -march=rv32imc; a halfword of zeros (unimp) is data, or memory past the code',
+    8: 'compile with -march=rv32imc, which has no floating-point instructions; a reserved halfword, as zeros (unimp), is data, or memory '
+       'past the code',
     9: 'compile with -march=rv32imc, and use no CSR, system, atomic or floating-point instructions',
     10: 'it calls or jumps through a pointer that is null',
     11: 'the image cannot be written: place written data past its end, beginning as zero, as in examples/firmware/firmware.ld',

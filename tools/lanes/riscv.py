@@ -95,17 +95,23 @@ def step(entry, name=''):
 
 
 def short_form(word):
-    """How objdump writes a halfword, where it isn't as the word that it stands for."""
+    """How objdump writes a halfword, where it isn't as the word that it stands for. A hint of C.LI has the word of a C.NOP and reads as
+    that; hints of C.MV and C.ADD have the same words and read as these."""
     d, s1, s2 = ABI[rd(word)], ABI[rs1(word)], ABI[rs2(word)]
-    if opcode(word) == 0x33 and word == add_word(rd(word), 0, rs2(word)):
+    if opcode(word) == 0x33 and rd(word) and word == add_word(rd(word), 0, rs2(word)):
         return f'mv {d},{s2}'
+    if opcode(word) == 0x37 and rd(word) == 0:
+        return f'c.{upper("lui")(word, 0)}'
     if opcode(word) != 0x13:
         return None
     kind, value = funct3(word), immediate_i(word)
+    shift = SHIFTS.get((kind, bits(word, 31, 25)))
     if kind == 0 and rd(word) == 0 and value:
         return f'c.nop {value}'
-    if kind in (1, 5) and rs2(word) == 0:
-        return f'c.{SHIFTS[kind, bits(word, 31, 25)]}64 {d}'
+    if shift and rs2(word) == 0:
+        return f'c.{shift}64 {d}'
+    if shift == 'slli' and rd(word) == rs1(word) == 0:
+        return f'c.slli {d},0x{rs2(word):x}'
     return f'addi {d},{s1},0' if kind == value == 0 and rs1(word) else None
 
 
@@ -277,7 +283,7 @@ def quadrant_1(half, kind):
     if kind == 0:
         return i_word(0x13, 0, d, d, value)
     if kind == 2:
-        return i_word(0x13, 0, d, 0, value) if d else None
+        return i_word(0x13, 0, d, 0, value)
     if kind == 3:
         return upper_or_stack(half, d, value)
     if kind == 4:
@@ -291,7 +297,7 @@ def upper_or_stack(half, d, value):
     if d == 2:
         value = signed(gather(half, (12, 9), (6, 4), (5, 6), (4, 8), (3, 7), (2, 5)), 10)
         return i_word(0x13, 0, 2, 2, value) if value else None
-    return (value & 0xFFFFF) << 12 | d << 7 | 0x37 if value and d > 1 else None
+    return (value & 0xFFFFF) << 12 | d << 7 | 0x37 if value else None
 
 
 def small_arithmetic(half, d, value):
@@ -309,7 +315,7 @@ def small_arithmetic(half, d, value):
 def quadrant_2(half, kind):
     d, s = bits(half, 11, 7), bits(half, 6, 2)
     if kind == 0:
-        return i_word(0x13, 1, d, d, s) if d and not half >> 12 & 1 else None
+        return None if half >> 12 & 1 else i_word(0x13, 1, d, d, s)
     if kind == 2:
         return i_word(0x03, 2, d, 2, gather(half, (12, 5), (3, 7), (2, 6)) + (bits(half, 6, 4) << 2)) if d else None
     if kind == 6:
@@ -319,7 +325,7 @@ def quadrant_2(half, kind):
 
 def jump_or_add(link, d, s):
     if s:
-        return add_word(d, d if link else 0, s) if d else None
+        return add_word(d, d if link else 0, s)
     if d:
         return i_word(0x67, 0, link, d, 0)
     return FIXED_EBREAK if link else None
@@ -332,20 +338,15 @@ QUADRANTS = {0: quadrant_0, 1: quadrant_1, 2: quadrant_2}
 def disassemble_halfword(half, pc):
     """The instruction of a halfword that begins no word."""
     word = expand(half)
-    if word is not None:
-        return disassemble(word, pc, 2)
-    return refused_halfword(half)
+    if word is None:
+        return f'.2byte 0x{half:x}' if half else 'unimp'
+    return shared_hint(half, word) or disassemble(word, pc, 2)
 
 
-def refused_halfword(half):
-    """What objdump reads in a halfword that the run refuses."""
-    d, s, value = ABI[bits(half, 11, 7)], ABI[bits(half, 6, 2)], signed(gather(half, (12, 5)) + bits(half, 6, 2), 6)
-    if half == 0:
-        return 'unimp'
-    if half & 0xE003 == 0x4001:
-        return f'c.li zero,{value}'
-    if half & 0xE003 == 0x6001 and value and d in ('zero', 'ra'):
-        return f'{"c.lui" if d == "zero" else "lui"} {d},0x{value & 0xFFFFF:x}'
-    if half & 0xEF83 == 0x8002 and s != 'zero':
-        return f'{"c.add" if half >> 12 & 1 else "c.mv"} zero,{s}'
-    return f'.2byte 0x{half:x}'
+def shared_hint(half, word):
+    """How objdump writes a hint of C.LI, C.MV or C.ADD, whose word is another halfword's too, or None."""
+    if half & 0xEF83 == 0x4001:
+        return f'c.li zero,{immediate_i(word)}'
+    if half & 0xEF83 == 0x8002 and opcode(word) == 0x33:
+        return f'{"c.add" if half >> 12 & 1 else "c.mv"} zero,{ABI[rs2(word)]}'
+    return None
