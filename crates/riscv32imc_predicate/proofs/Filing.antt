@@ -19,7 +19,7 @@ use Rattle.predicate_semantics.specs.Program.{stop, stackPointer}
 use Rattle.predicate_semantics.specs.State.{fill, atStart, assign}
 use Rattle.predicate_action.specs.declared.Reading.{Reading}
 use Rattle.predicate_action.specs.Reading.{operandOf}
-use Rattle.riscv32imc_predicate.specs.declared.Hint.{Hint}
+use Rattle.riscv32imc_predicate.specs.declared.Tag.{Tag}
 use Rattle.riscv32imc_predicate.specs.Setting.{registerCount}
 use Rattle.riscv32imc_predicate.specs.Register.{firstOperand, secondOperand, unread, places, heldWords, Held, startRegisters, byValue, byLanes, slotOf, operandTold, placeOf, laidOut}
 
@@ -31,7 +31,7 @@ read-any [] i d e h = absurd (omega arith)
 read-any (x ∷ xs) zero d e h = refl
 read-any (x ∷ xs) (suc i) d e h = read-any xs i d e (omega arith)
 
-held-both : (n : ℕ) (us : List Hint) (ws : List LaneWord) (i : ℕ) (u : Hint) (w : LaneWord)
+held-both : (n : ℕ) (us : List Tag) (ws : List LaneWord) (i : ℕ) (u : Tag) (w : LaneWord)
     → heldWords n (set us i u) (set ws i w) ≡ set (heldWords n us ws) i (wordOf (u .told) w)
 unfolding heldWords
 held-both zero us ws i u w = refl
@@ -41,7 +41,7 @@ held-both (suc n) (x ∷ us) [] (suc i) u w = refl
 held-both (suc n) (x ∷ us) (y ∷ ws) zero u w = refl
 held-both (suc n) (x ∷ us) (y ∷ ws) (suc i) u w = ap (λ (l : List LaneWord). wordOf (x .told) y ∷ l) (held-both n us ws i u w)
 
-held-told : (n : ℕ) (us : List Hint) (ws : List LaneWord) (i v : ℕ) → heldWords n (set us i (byValue v)) ws ≡ set (heldWords n us ws) i (constant lanes v)
+held-told : (n : ℕ) (us : List Tag) (ws : List LaneWord) (i v : ℕ) → heldWords n (set us i (byValue v)) ws ≡ set (heldWords n us ws) i (constant lanes v)
 unfolding heldWords
 held-told zero us ws i v = refl
 held-told (suc n) [] ws i v = refl
@@ -50,7 +50,7 @@ held-told (suc n) (x ∷ us) [] (suc i) v = refl
 held-told (suc n) (x ∷ us) (y ∷ ws) zero v = refl
 held-told (suc n) (x ∷ us) (y ∷ ws) (suc i) v = ap (λ (l : List LaneWord). wordOf (x .told) y ∷ l) (held-told n us ws i v)
 
-held-beyond : (n : ℕ) (us : List Hint) (ws : List LaneWord) (i : ℕ) (w : LaneWord) → n ≤ i → heldWords n us (set ws i w) ≡ heldWords n us ws
+held-beyond : (n : ℕ) (us : List Tag) (ws : List LaneWord) (i : ℕ) (w : LaneWord) → n ≤ i → heldWords n us (set ws i w) ≡ heldWords n us ws
 unfolding heldWords
 held-beyond zero us ws i w h = refl
 held-beyond (suc n) [] ws i w h = refl
@@ -58,7 +58,7 @@ held-beyond (suc n) (x ∷ us) [] i w h = refl
 held-beyond (suc n) (x ∷ us) (y ∷ ws) zero w h = absurd (omega arith)
 held-beyond (suc n) (x ∷ us) (y ∷ ws) (suc i) w h = ap (λ (l : List LaneWord). wordOf (x .told) y ∷ l) (held-beyond n us ws i w (omega arith))
 
-held-read : (n : ℕ) (us : List Hint) (ws : List LaneWord) (k : ℕ) (d : LaneWord) (e : Hint) (f : LaneWord) → (k < n) × (n ≤ length us) × (n ≤ length ws)
+held-read : (n : ℕ) (us : List Tag) (ws : List LaneWord) (k : ℕ) (d : LaneWord) (e : Tag) (f : LaneWord) → (k < n) × (n ≤ length us) × (n ≤ length ws)
     → getD (heldWords n us ws) k d ≡ wordOf (getD us k e .told) (getD ws k f)
 unfolding heldWords
 held-read zero us ws k d e f h = absurd (omega (arith, h .0))
@@ -68,7 +68,7 @@ held-read (suc n) (x ∷ us) (y ∷ ws) zero d e f h = refl
 held-read (suc n) (x ∷ us) (y ∷ ws) (suc k) d e f h = held-read n us ws k d e f (omega (arith, h .0), omega (arith, h .1), omega (arith, h .2))
 
 -- the words of fewer places
-held-fewer : (n m : ℕ) (us : List Hint) (ws : List LaneWord) → n ≤ m → heldWords n us ws ≡ take n (heldWords m us ws)
+held-fewer : (n m : ℕ) (us : List Tag) (ws : List LaneWord) → n ≤ m → heldWords n us ws ≡ take n (heldWords m us ws)
 unfolding heldWords
 held-fewer zero m us ws h = refl
 held-fewer (suc n) zero us ws h = absurd (omega arith)
@@ -119,11 +119,11 @@ sized-set ws i w e b s f k h = go (eqb k i) refl
     go true q = rw (eqb-true k i q, getD-set-same ws i w (unknown lanes) (omega (arith, e, b))) s
     go false q = rw (getD-set-other ws i k w (unknown lanes) (λ z. eqb-false k i q z)) (f k h)
 
-module _ {n : ℕ} {hints : List Hint} {words registers : List LaneWord} (h : Held n hints words registers) where
+module _ {n : ℕ} {tags : List Tag} {words registers : List LaneWord} (h : Held n tags words registers) where
   -- a register that is read
-  pub held-source : (k : ℕ) (d : LaneWord) (e : Hint) (f : LaneWord) → k < n → getD registers k d ≡ wordOf (getD hints k e .told) (getD words k f)
+  pub held-source : (k : ℕ) (d : LaneWord) (e : Tag) (f : LaneWord) → k < n → getD registers k d ≡ wordOf (getD tags k e .told) (getD words k f)
   held-source k d e f b =
-      rw (← (h .same)) (held-read n hints words k d e f (b, omega (arith, h .hints-size, h .most), omega (arith, h .words-size, h .most)))
+      rw (← (h .same)) (held-read n tags words k d e f (b, omega (arith, h .tags-size, h .most), omega (arith, h .words-size, h .most)))
 
   pub held-lanes : (k : ℕ) (d : LaneWord) → k < places → length (getD words k d .values) ≡ lanes
   held-lanes k d b = rw (read-any words k d (unknown lanes) (omega (arith, h .words-size))) (h .sized k b)
@@ -136,43 +136,43 @@ module _ {n : ℕ} {hints : List Hint} {words registers : List LaneWord} (h : He
   set-size rd w = ap length (sym (set-slot rd w)) ∙ length-set registers (slotOf rd) w ∙ h .size
 
   -- a register that is set, by one value
-  pub held-value : (rd v : ℕ) → Held n (set hints (slotOf rd) (byValue v)) words (assign registers rd (constant lanes v))
+  pub held-value : (rd v : ℕ) → Held n (set tags (slotOf rd) (byValue v)) words (assign registers rd (constant lanes v))
   held-value rd v = record {
-    hints-size = length-set hints (slotOf rd) (byValue v) ∙ h .hints-size;
+    tags-size = length-set tags (slotOf rd) (byValue v) ∙ h .tags-size;
     words-size = h .words-size;
     sized = h .sized;
     most = h .most;
     size = set-size rd (constant lanes v);
     same =
-        held-told n hints words (slotOf rd) v
+        held-told n tags words (slotOf rd) v
         ∙ ap (λ (l : List LaneWord). set l (slotOf rd) (constant lanes v)) (h .same)
         ∙ set-slot rd (constant lanes v);
   }
 
   -- by its lanes
   pub held-word : (rd : ℕ) (w : LaneWord) → length (w .values) ≡ lanes
-      → Held n (set hints (slotOf rd) byLanes) (set words (slotOf rd) w) (assign registers rd w)
+      → Held n (set tags (slotOf rd) byLanes) (set words (slotOf rd) w) (assign registers rd w)
   held-word rd w s = record {
-    hints-size = length-set hints (slotOf rd) byLanes ∙ h .hints-size;
+    tags-size = length-set tags (slotOf rd) byLanes ∙ h .tags-size;
     words-size = length-set words (slotOf rd) w ∙ h .words-size;
     sized = sized-set words (slotOf rd) w (h .words-size) (slot-below rd) s (h .sized);
     most = h .most;
     size = set-size rd w;
     same =
-        held-both n hints words (slotOf rd) byLanes w
+        held-both n tags words (slotOf rd) byLanes w
         ∙ ap (λ (l : List LaneWord). set l (slotOf rd) w) (h .same)
         ∙ set-slot rd w;
   }
 
   -- a value that is laid out past the registers
-  pub held-laid : (u : Told) (own : ℕ) → registerCount ≤ own → own < places → Held n hints (laidOut u own words) registers
+  pub held-laid : (u : Told) (own : ℕ) → registerCount ≤ own → own < places → Held n tags (laidOut u own words) registers
   held-laid (Value v) own a b = record {
-    hints-size = h .hints-size;
+    tags-size = h .tags-size;
     words-size = length-set words own (constant lanes v) ∙ h .words-size;
     sized = sized-set words own (constant lanes v) (h .words-size) b (constant-size lanes v) (h .sized);
     most = h .most;
     size = h .size;
-    same = held-beyond n hints words own (constant lanes v) (omega (arith, h .most, a)) ∙ h .same;
+    same = held-beyond n tags words own (constant lanes v) (omega (arith, h .most, a)) ∙ h .same;
   }
   held-laid Lanes own a b = h
 
@@ -214,14 +214,14 @@ unfolding unknown
 unknown-size n = length-replicate n 0
 
 -- x0, x1 and x2 are told by their values
-abbrev pub startHints : List Hint
-startHints = set (set (set (replicate places byLanes) 0 (byValue 0)) 1 (byValue stop)) 2 (byValue stackPointer)
+abbrev pub startTags : List Tag
+startTags = set (set (set (replicate places byLanes) 0 (byValue 0)) 1 (byValue stop)) 2 (byValue stackPointer)
 
 pub start-held : (x10 : LaneWord) → length (x10 .values) ≡ lanes → (n : ℕ) → n ≤ registerCount
-    → Held n startHints (set (replicate places (unknown lanes)) 10 x10) (startRegisters n x10)
+    → Held n startTags (set (replicate places (unknown lanes)) 10 x10) (startRegisters n x10)
 unfolding heldWords fill atStart choose
 start-held x10 s n h = record {
-  hints-size = refl;
+  tags-size = refl;
   words-size = refl;
   sized =
       sized-set (replicate places (unknown lanes)) 10 x10 refl (omega arith) s
@@ -229,6 +229,6 @@ start-held x10 s n h = record {
   most = h;
   size = length-fill n 0 _;
   same =
-      held-fewer n registerCount startHints (set (replicate places (unknown lanes)) 10 x10) h
+      held-fewer n registerCount startTags (set (replicate places (unknown lanes)) 10 x10) h
       ∙ sym (fill-fewer n registerCount 0 _ h);
 }

@@ -15,7 +15,7 @@ use Rattle.predicate_semantics.proofs.Always.{no-pass}
 use Rattle.lane_memory.proofs.Laws.{holds-new}
 use Rattle.lane_access.specs.Seen.{seen}
 use Rattle.lane_access.proofs.Laws.{seen-holds}
-use Rattle.riscv32imc_predicate.specs.declared.Hint.{Hint}
+use Rattle.riscv32imc_predicate.specs.declared.Tag.{Tag}
 use Rattle.riscv32imc_predicate.specs.declared.Recorded.{Recorded}
 use Rattle.riscv32imc_predicate.specs.Setting.{Setting, Environment}
 use Rattle.riscv32imc_predicate.specs.Changes.{Given}
@@ -74,6 +74,6 @@ module _ {c : Setting} {g : Environment} {m : Machine} {s : LaneState} (h : Stan
       (q (s .locations) (omega (arith, h .tracks .kept .located, b)) (h .keeps)))
 
   -- the word at stop's return value
-  pub return-word : (u : Hint) (d : LaneWord) → reg (c .program) (c .setup) s 10 ≡ wordOf (getD (m .hints) 10 u .told) (getD (m .words) 10 d)
+  pub return-word : (u : Tag) (d : LaneWord) → reg (c .program) (c .setup) s 10 ≡ wordOf (getD (m .tags) 10 u .told) (getD (m .words) 10 d)
   unfolding reg
   return-word u d = held-source (h .held) 10 _ u d (h .serves .least-registers)

@@ -46,7 +46,7 @@ use Rattle.riscv32imc_predicate.proofs.Following.{given, return-word}
 use Rattle.riscv32imc_predicate.proofs.Stepping.{after, nextOf, Leaves, Completes, Decided, Passes, passes, stepped, on-passed, on-refused, leaves-going, leaves-setting, leaves-storing}
 
 abbrev pub withWords : Machine → List LaneWord → Machine
-withWords m words = record { place = m .place; hints = m .hints; words = words; noted = m .noted; rows = m .rows; trace = m .trace }
+withWords m words = record { place = m .place; tags = m .tags; words = words; noted = m .noted; rows = m .rows; trace = m .trace }
 
 -- the loop stands at a state that the run comes to from where the call began
 pub record Looped (c : Setting) (g : Environment) (s : LaneState) (m : Machine) (word : LaneWord) : Type 0 where
@@ -62,7 +62,7 @@ looped-start {s = s} e h = record { state = s; taken = 0; came = refl; stands = 
 
 -- what the call then hands back
 pub arrives-as : {c : Setting} {g : Environment} {s : LaneState} {m : Machine} {word : LaneWord} (i : Looped c g s m word) (b : Machine) → Stands c g b (i .state)
-    → (q : Ending) → Ends c (g .bounds .pause) q (i .state) → {r : Reached} → r ≡ reachedWith (b .place) q (b .noted) (b .words) (b .hints)
+    → (q : Ending) → Ends c (g .bounds .pause) q (i .state) → {r : Reached} → r ≡ reachedWith (b .place) q (b .noted) (b .words) (b .tags)
     → Arrives c g s r (b .rows) (b .trace)
 arrives-as i b h q e z =
     rw z (record { state = i .state; taken = i .taken; after = i .came; stands = h; ends = e; return-word = sym (return-word h (byValue 0) blank) })
@@ -70,10 +70,10 @@ arrives-as i b h q e z =
 -- ---- the words of a step, by what the loop holds
 
 abbrev pub toldFirst : Progress → Machine → Told
-toldFirst progress m = getD (m .hints) (progress .reading .rs1) (byValue 0) .told
+toldFirst progress m = getD (m .tags) (progress .reading .rs1) (byValue 0) .told
 
 abbrev pub toldSecond : Progress → Machine → Told
-toldSecond progress m = getD (m .hints) (progress .reading .rs2) (byValue 0) .told
+toldSecond progress m = getD (m .tags) (progress .reading .rs2) (byValue 0) .told
 
 abbrev pub toldOperand : Progress → Machine → Told
 toldOperand progress m = operandTold (progress .reading) (toldSecond progress m)
@@ -89,7 +89,7 @@ resultOf progress m = computed (progress .reading) (wordFirst progress m) (wordS
 
 -- what the loop knows once the word is computed or told: its registers are held still, and its lanes are the result's where no value is
 pub record Computed (n : ℕ) (m : Machine) (registers : List LaneWord) (result : LaneWord) (words : List LaneWord) (word : LaneWord) (tested : Uniform) : Type 0 where
-  pub keeps : Held n (m .hints) words registers
+  pub keeps : Held n (m .tags) words registers
   pub sized : length (word .values) ≡ lanes
   pub tells : tested ≡ uniformOf result
   pub by-lanes : Untold tested → word ≡ result
@@ -116,15 +116,15 @@ Rests a b new = (b .noted ≡ a .noted) × (b .rows ≡ a .rows) × (new ≡ 0)
 
 -- from one machine to another, with the computed word; `new` bytes get an address
 abbrev pub Applied : Environment → Progress → LaneWord → Change → Machine → Machine → ℕ → Type 0
-Applied g progress word change.Nothing a b new = (b .hints ≡ a .hints) × (b .words ≡ a .words) × Rests a b new
-Applied g progress word (change.Sets rd z) a b new = (b .hints ≡ set (a .hints) (slotOf rd) (byValue z)) × (b .words ≡ a .words) × Rests a b new
+Applied g progress word change.Nothing a b new = (b .tags ≡ a .tags) × (b .words ≡ a .words) × Rests a b new
+Applied g progress word (change.Sets rd z) a b new = (b .tags ≡ set (a .tags) (slotOf rd) (byValue z)) × (b .words ≡ a .words) × Rests a b new
 Applied g progress word (change.Computes rd) a b new =
-    (b .hints ≡ set (a .hints) (slotOf rd) byLanes) × (b .words ≡ set (a .words) (slotOf rd) word) × Rests a b new
+    (b .tags ≡ set (a .tags) (slotOf rd) byLanes) × (b .words ≡ set (a .words) (slotOf rd) word) × Rests a b new
 Applied g progress word (change.Loads rd at n e) a b new =
     (loaded : LaneWord) × LoadsLanes (g .image) (a .rows) at n e loaded
-    × (b .hints ≡ set (a .hints) (slotOf rd) byLanes) × (b .words ≡ set (a .words) (slotOf rd) loaded) × Rests a b new
+    × (b .tags ≡ set (a .tags) (slotOf rd) byLanes) × (b .words ≡ set (a .words) (slotOf rd) loaded) × Rests a b new
 Applied g progress word (change.Stores at n) a b new =
-    (b .hints ≡ a .hints) × (b .words ≡ a .words) × Stores (a .rows) at n (wordSecond progress a) new (b .rows)
+    (b .tags ≡ a .tags) × (b .words ≡ a .words) × Stores (a .rows) at n (wordSecond progress a) new (b .rows)
     × Located (a .noted) (a .place .pc) at n (g .symbols .«event_count») (b .noted)
 
 -- the rows stay as many, whatever is stored
@@ -161,7 +161,7 @@ module _ {c : Setting} {g : Environment} {s : LaneState} {m : Machine} {word : L
   most : n ≤ registerCount
   most = i .stands .held .most
 
-  source : (j : ℕ) → j < n → reg (c .program) (c .setup) (i .state) j ≡ wordOf (getD (m .hints) j (byValue 0) .told) (getD (m .words) j blank)
+  source : (j : ℕ) → j < n → reg (c .program) (c .setup) (i .state) j ≡ wordOf (getD (m .tags) j (byValue 0) .told) (getD (m .words) j blank)
   unfolding reg
   source j h = held-source (i .stands .held) j _ (byValue 0) blank h
 
@@ -203,8 +203,8 @@ module _ {c : Setting} {g : Environment} {s : LaneState} {m : Machine} {word : L
       let v : Told = toldOperand progress m in
       let below₁ : progress .reading .rs1 < registerCount = omega (arith, sources .0, most) in
       let below₂ : progress .reading .rs2 < registerCount = omega (arith, sources .1, most) in
-      let kept₁ : Held n (m .hints) words₁ (i .state .registers) = rw (l .first-words) (held-laid (i .stands .held) u firstOperand (omega arith) (omega arith)) in
-      let kept₂ : Held n (m .hints) words₂ (i .state .registers) = rw (l .second-words) (held-laid kept₁ v secondOperand (omega arith) (omega arith)) in
+      let kept₁ : Held n (m .tags) words₁ (i .state .registers) = rw (l .first-words) (held-laid (i .stands .held) u firstOperand (omega arith) (omega arith)) in
+      let kept₂ : Held n (m .tags) words₂ (i .state .registers) = rw (l .second-words) (held-laid kept₁ v secondOperand (omega arith) (omega arith)) in
       let one : getD words₂ place₁ blank ≡ wordFirst progress m
       = rw (l .second-words, l .first-place) (laid-other words₁ v (placeOf u (progress .reading .rs1) firstOperand) secondOperand blank (place-apart u (progress .reading .rs1) below₁)
       ∙ rw (l .first-words) (laid-read (i .stands .held) u (progress .reading .rs1) firstOperand blank blank (omega (arith, below₁)) (omega arith))) in
@@ -266,7 +266,7 @@ module _ {c : Setting} {g : Environment} {s : LaneState} {m : Machine} {word : L
 
       -- the loop after it
       on : (z : Effect LaneWord) → nextOf z ≡ next → Passes (i .stands) k z → {noted : Recorded} {rows : List ℕ} → b .noted ≡ noted → b .rows ≡ rows
-          → Leaves c (i .state) (k .instruction) z new noted rows → Held n (b .hints) (b .words) (after c (i .state) (k .instruction) z .registers) → Looped c g s b word′
+          → Leaves c (i .state) (k .instruction) z new noted rows → Held n (b .tags) (b .words) (after c (i .state) (k .instruction) z .registers) → Looped c g s b word′
       on z e p q r l h =
           let l′ : Leaves c (i .state) (k .instruction) z new (b .noted) (b .rows) = rw (q, r) l in
           let o′ : Completes m progress (nextOf z) new (b .place) (b .trace) = rw e o in

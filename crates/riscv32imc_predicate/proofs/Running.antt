@@ -159,7 +159,7 @@ module _ {c : Setting} {image : List ℕ} {symbols : Rv32SymbolLayout} {first : 
     kept-first = kept-start (c .program) (c .setup) _ started .0
 
     -- the registers of the start
-    begin-held : {r : Registers} → StartsWith x10 r → Held (registersOf c) (r .hints) (r .words) (firstState c .registers)
+    begin-held : {r : Registers} → StartsWith x10 r → Held (registersOf c) (r .tags) (r .words) (firstState c .registers)
     unfolding begin
     begin-held {r} w =
         rw (lane-count c (k .serves .same-lanes), k .same-domain) (w (registersOf c) (k .serves .most-registers))

@@ -21,7 +21,7 @@ use Rattle.predicate_action.specs.Meaning.{extensionOf}
 use Rattle.lane_memory.specs.Rows.{newBytes, cleared}
 use Rattle.lane_memory.specs.Holds.{Holds}
 use Rattle.lane_access.specs.Seen.{seen}
-use Rattle.riscv32imc_predicate.specs.declared.Hint.{Hint}
+use Rattle.riscv32imc_predicate.specs.declared.Tag.{Tag}
 use Rattle.riscv32imc_predicate.specs.declared.Registers.{Registers}
 use Rattle.riscv32imc_predicate.specs.Setting.{registerCount}
 
@@ -39,20 +39,20 @@ abbrev pub places : ℕ
 places = registerCount + 3
 
 -- the words of the first n places
-unfoldable pub heldWords : ℕ → List Hint → List LaneWord → List LaneWord
+unfoldable pub heldWords : ℕ → List Tag → List LaneWord → List LaneWord
 heldWords zero us ws = []
 heldWords (suc n) [] ws = []
 heldWords (suc n) (u ∷ us) [] = []
 heldWords (suc n) (u ∷ us) (w ∷ ws) = wordOf (u .told) w ∷ heldWords n us ws
 
 -- the places hold n registers; every word has its lanes
-pub record Held (n : ℕ) (hints : List Hint) (words registers : List LaneWord) : Type 0 where
-  pub hints-size : length hints ≡ places
+pub record Held (n : ℕ) (tags : List Tag) (words registers : List LaneWord) : Type 0 where
+  pub tags-size : length tags ≡ places
   pub words-size : length words ≡ places
   pub sized : (k : ℕ) → k < places → length (getD words k (unknown lanes) .values) ≡ lanes
   pub most : n ≤ registerCount
   pub size : length registers ≡ n
-  pub same : heldWords n hints words ≡ registers
+  pub same : heldWords n tags words ≡ registers
 
 -- `Control step`: four registers are known before any step, no other
 abbrev pub startRegisters : ℕ → LaneWord → List LaneWord
@@ -64,15 +64,15 @@ abbrev pub blank : LaneWord
 blank = record { values = []; known = false }
 
 -- a word that one value tells, and one that its lanes do
-abbrev pub byValue : ℕ → Hint
+abbrev pub byValue : ℕ → Tag
 byValue v = record { told = Value v }
 
-abbrev pub byLanes : Hint
+abbrev pub byLanes : Tag
 byLanes = record { told = Lanes }
 
 -- the first registers of every core that the code has places for
 abbrev pub StartsWith : LaneWord → Registers → Type 0
-StartsWith x10 r = (n : ℕ) → n ≤ registerCount → Held n (r .hints) (r .words) (startRegisters n x10)
+StartsWith x10 r = (n : ℕ) → n ≤ registerCount → Held n (r .tags) (r .words) (startRegisters n x10)
 
 -- where a register is set: x0, and what is no register, at the place that is not read
 abbrev pub slotOf : ℕ → ℕ

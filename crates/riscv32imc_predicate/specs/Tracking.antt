@@ -23,7 +23,7 @@ use Rattle.lane_access.specs.Seen.{seen, Above}
 use Rattle.riscv32imc_predicate.specs.declared.Place.{Place}
 use Rattle.riscv32imc_predicate.specs.declared.Recorded.{Recorded}
 use Rattle.riscv32imc_predicate.specs.declared.Ending.{Ending}
-use Rattle.riscv32imc_predicate.specs.declared.Hint.{Hint}
+use Rattle.riscv32imc_predicate.specs.declared.Tag.{Tag}
 use Rattle.riscv32imc_predicate.specs.declared.Registers.{Registers}
 use Rattle.riscv32imc_predicate.specs.declared.Progress.{Progress}
 use Rattle.riscv32imc_predicate.specs.declared.Decision.{Decision}
@@ -53,7 +53,7 @@ pub record Tracks (c : Setting) (place : Place) (rows trace : List ℕ) (s : Lan
 -- what it changes: the place, what is told of the registers' words, the words, event locations, rows and trace
 pub record Machine : Type 0 where
   pub place : Place
-  pub hints : List Hint
+  pub tags : List Tag
   pub words : List LaneWord
   pub noted : Recorded
   pub rows : List ℕ
@@ -62,7 +62,7 @@ pub record Machine : Type 0 where
 abbrev pub machine : Place → Registers → Recorded → List ℕ → List ℕ → Machine
 machine place registers noted rows trace = record {
   place = place;
-  hints = registers .hints;
+  tags = registers .tags;
   words = registers .words;
   noted = noted;
   rows = rows;
@@ -74,17 +74,17 @@ pub record Stands (c : Setting) (g : Environment) (m : Machine) (s : LaneState) 
   pub serves : Serves c g
   pub tracks : Tracks c (m .place) (m .rows) (m .trace) s
   pub keeps : Keeps (m .noted) (s .locations)
-  pub held : Held (registersOf c) (m .hints) (m .words) (s .registers)
+  pub held : Held (registersOf c) (m .tags) (m .words) (s .registers)
 
 -- what a call hands back; x10's word is one of its registers'
-abbrev pub reachedWith : Place → Ending → Recorded → List LaneWord → List Hint → Reached
-reachedWith place ending noted words hints = record {
+abbrev pub reachedWith : Place → Ending → Recorded → List LaneWord → List Tag → Reached
+reachedWith place ending noted words tags = record {
   place = place;
   ending = ending;
   recorded = noted;
   words = words;
-  hints = hints;
-  x10 = wordOf (getD hints 10 (byValue 0) .told) (getD words 10 blank);
+  tags = tags;
+  x10 = wordOf (getD tags 10 (byValue 0) .told) (getD words 10 blank);
 }
 
 -- where the call ends: some completed steps on, and standing there
@@ -92,7 +92,7 @@ pub record Arrives (c : Setting) (g : Environment) (s : LaneState) (r : Reached)
   pub state : LaneState
   pub taken : ℕ
   pub after : Lane.after (c .program) (c .setup) taken s ≡ some state
-  pub stands : Stands c g (machine (r .place) (record { words = r .words; hints = r .hints }) (r .recorded) rows trace) state
+  pub stands : Stands c g (machine (r .place) (record { words = r .words; tags = r .tags }) (r .recorded) rows trace) state
   pub ends : Ends c (g .bounds .pause) (r .ending) state
   pub return-word : r .x10 ≡ reg (c .program) (c .setup) state 10
 

@@ -102,14 +102,14 @@ const UNREAD: usize = REGISTERS + 2;
 const PLACES: usize = REGISTERS + 3;
 
 // What is told of a register's word. A field that is an array holds structs, so the enum stands in one.
-struct Hint {
+struct Tag {
     told: Told,
 }
 
 // The registers, each told by one value or by the lanes of its word.
 struct Registers {
     words: [LaneWord; PLACES],
-    hints: [Hint; PLACES],
+    tags: [Tag; PLACES],
 }
 
 // Where a call of the loop ends, with all that another call would go on from. x10's word stands apart, so that a run that ends
@@ -119,7 +119,7 @@ struct Reached {
     ending: Ending,
     recorded: Recorded,
     words: [LaneWord; PLACES],
-    hints: [Hint; PLACES],
+    tags: [Tag; PLACES],
     x10: LaneWord,
 }
 

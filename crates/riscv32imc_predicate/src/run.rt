@@ -4,7 +4,6 @@ use super::Change;
 use super::Decision;
 use super::Ending;
 use super::FIRST_OPERAND;
-use super::Hint;
 use super::PLACES;
 use super::Place;
 use super::REGISTERS;
@@ -12,6 +11,7 @@ use super::Reached;
 use super::Recorded;
 use super::Registers;
 use super::SECOND_OPERAND;
+use super::Tag;
 use super::UNREAD;
 use super::decide::decide;
 use super::follow::complete;
@@ -146,19 +146,19 @@ fn reached(
     ending: Ending,
     recorded: Recorded,
     words: [LaneWord; PLACES],
-    hints: [Hint; PLACES],
+    tags: [Tag; PLACES],
 ) -> Reached
-    ensures { λ r. ⌜ r ≡ reachedWith place ending recorded words hints ⌝ }
+    ensures { λ r. ⌜ r ≡ reachedWith place ending recorded words tags ⌝ }
 {
-    let hint = hints[10];
-    let told = hint.told;
+    let tag = tags[10];
+    let told = tag.told;
     let x10 = lanes_of(told, words[10]);
     Reached {
         place,
         ending,
         recorded,
         words,
-        hints,
+        tags,
         x10,
     }
 }
@@ -178,7 +178,7 @@ pub fn advance(
     ensures { λ r. ⌜ cleared (now (rows .exit)) ≡ cleared (now (rows .entry)) ⌝ }
 {
     let mut words = start.words;
-    let mut hints = start.hints;
+    let mut tags = start.tags;
     let mut computed = LaneWord::unknown();
     let mut recorded = kept;
     let mut place = first;
@@ -186,14 +186,14 @@ pub fn advance(
         let progress = ready(place, image, rows, bounds);
         if !progress.more {
             let ending = progress.ending;
-            return reached(place, ending, recorded, words, hints);
+            return reached(place, ending, recorded, words, tags);
         }
         let reading = progress.reading;
         let function = reading.function;
         let rs1 = reading.rs1 as usize;
         let rs2 = reading.rs2 as usize;
-        let one = hints[rs1];
-        let other = hints[rs2];
+        let one = tags[rs1];
+        let other = tags[rs2];
         let left = one.told;
         let second = other.told;
         let right = second_operand(reading, second);
@@ -219,7 +219,7 @@ pub fn advance(
         let decision = decide(progress, place, tested, image, rows, bounds.entries);
         match decision {
             Decision::Refused(error) => {
-                return reached(place, Ending::Refused(error), recorded, words, hints);
+                return reached(place, Ending::Refused(error), recorded, words, tags);
             }
             Decision::Goes { change, next } => {
                 let mut new: u32 = 0;
@@ -227,13 +227,13 @@ pub fn advance(
                     Change::Nothing => {}
                     Change::Sets { rd, value } => {
                         let slot = slot_of(rd);
-                        hints[slot] = Hint {
+                        tags[slot] = Tag {
                             told: Told::Value(value),
                         };
                     }
                     Change::Computes { rd } => {
                         let slot = slot_of(rd);
-                        hints[slot] = Hint { told: Told::Lanes };
+                        tags[slot] = Tag { told: Told::Lanes };
                         words[slot] = computed;
                     }
                     Change::Loads {
@@ -243,7 +243,7 @@ pub fn advance(
                         extension,
                     } => {
                         let slot = slot_of(rd);
-                        hints[slot] = Hint { told: Told::Lanes };
+                        tags[slot] = Tag { told: Told::Lanes };
                         words[slot] = load_lanes(image, rows, address, width, extension);
                     }
                     Change::Stores { address, width } => {

@@ -1,9 +1,9 @@
 // Before any step: the tests, the place, the locations and the registers.
-use super::Hint;
 use super::PLACES;
 use super::Place;
 use super::Recorded;
 use super::Registers;
+use super::Tag;
 use lane_access::Verdict;
 use lane_word::LaneWord;
 use lane_word::Told;
@@ -84,15 +84,15 @@ pub fn start_registers(x10: LaneWord) -> Registers
 {
     let mut words = [LaneWord::unknown(); PLACES];
     words[10] = x10;
-    let mut hints = [Hint { told: Told::Lanes }; PLACES];
-    hints[0] = Hint {
+    let mut tags = [Tag { told: Told::Lanes }; PLACES];
+    tags[0] = Tag {
         told: Told::Value(0),
     };
-    hints[1] = Hint {
+    tags[1] = Tag {
         told: Told::Value(STOP),
     };
-    hints[2] = Hint {
+    tags[2] = Tag {
         told: Told::Value(STACK_POINTER),
     };
-    Registers { words, hints }
+    Registers { words, tags }
 }

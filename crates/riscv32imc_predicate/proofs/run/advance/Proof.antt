@@ -18,7 +18,7 @@ use Rattle.lane_memory.proofs.Laws.{cleared-long}
 use Rattle.riscv32imc_predicate.specs.declared.Change.{Change}
 use Rattle.riscv32imc_predicate.specs.declared.Decision.{Decision}
 use Rattle.riscv32imc_predicate.specs.declared.Ending.the-variants as ending
-use Rattle.riscv32imc_predicate.specs.declared.Hint.{Hint}
+use Rattle.riscv32imc_predicate.specs.declared.Tag.{Tag}
 use Rattle.riscv32imc_predicate.specs.declared.Place.{Place}
 use Rattle.riscv32imc_predicate.specs.declared.Progress.{Progress}
 use Rattle.riscv32imc_predicate.specs.declared.Recorded.{Recorded}
@@ -35,19 +35,19 @@ use Rattle.riscv32imc_predicate.proofs.Looping.{withWords, Looped, loop
 use Rattle.riscv32imc_predicate.proofs.run.advance.Statement.{statement}
 use Rattle.riscv32imc_predicate.proofs.run.advance.Tie as tie
 
-abbrev machineOf : Place → List Hint → List LaneWord → Recorded → List ℕ → List ℕ → Machine
-machineOf place hints words noted rows trace = record { place = place; hints = hints; words = words; noted = noted; rows = rows; trace = trace }
+abbrev machineOf : Place → List Tag → List LaneWord → Recorded → List ℕ → List ℕ → Machine
+machineOf place tags words noted rows trace = record { place = place; tags = tags; words = words; noted = noted; rows = rows; trace = trace }
 
 -- rows and trace keep their lengths, and from wherever the call stood it has come to where the loop stands
 abbrev I : tie.InvT-loop
-I image symbols rows₀ trace₀ bounds words₀ hints₀ computed₀ recorded₀ place₀ rows trace words hints computed recorded place =
+I image symbols rows₀ trace₀ bounds words₀ tags₀ computed₀ recorded₀ place₀ rows trace words tags computed recorded place =
     (cleared rows ≡ cleared rows₀)
     × (length trace ≡ length trace₀)
-    × ((c : Setting) (s : LaneState) → Stands c (environment image symbols bounds) (machineOf place₀ hints₀ words₀ recorded₀ rows₀ trace₀) s
-    → Looped c (environment image symbols bounds) s (machineOf place hints words recorded rows trace) computed)
+    × ((c : Setting) (s : LaneState) → Stands c (environment image symbols bounds) (machineOf place₀ tags₀ words₀ recorded₀ rows₀ trace₀) s
+    → Looped c (environment image symbols bounds) s (machineOf place tags words recorded rows trace) computed)
 
 abbrev μ : tie.MeasureT-loop
-μ image symbols rows₀ trace₀ bounds words₀ hints₀ computed₀ recorded₀ place₀ rows trace words hints computed recorded place = bounds .limit - place .steps
+μ image symbols rows₀ trace₀ bounds words₀ tags₀ computed₀ recorded₀ place₀ rows trace words tags computed recorded place = bounds .limit - place .steps
 
 -- what the loop has at a turn's start
 module _ (k : tie.At-loop I μ) where
@@ -58,10 +58,10 @@ module _ (k : tie.At-loop I μ) where
   g = environment (now (start-of .args .image)) (start-of .args .symbols) (start-of .args .bounds)
 
   abbrev held : Machine
-  held = machineOf (k .loop .place) (k .loop .hints) (k .loop .words) (k .loop .recorded) (k .loop .rows) (k .loop .trace)
+  held = machineOf (k .loop .place) (k .loop .tags) (k .loop .words) (k .loop .recorded) (k .loop .rows) (k .loop .trace)
 
   abbrev first : Machine
-  first = machineOf (start-of .args .first) (start-of .args .start .hints) (start-of .args .start .words) (start-of .args .kept) (now (start-of .args .rows)) (now (start-of .args .trace))
+  first = machineOf (start-of .args .first) (start-of .args .start .tags) (start-of .args .start .words) (start-of .args .kept) (now (start-of .args .rows)) (now (start-of .args .trace))
 
   rows-long : length (k .loop .rows) ≡ length (now (start-of .args .rows))
   rows-long = sym (cleared-long (k .loop .rows)) ∙ ap length (k .loop .inv .0) ∙ cleared-long (now (start-of .args .rows))
@@ -206,7 +206,7 @@ module _ (d : tie.At-match5-came I μ) where
   before₁ = withWords (held (loop₁ at₁)) (at₁ .match .words)
 
   abbrev after₁ : Place → List ℕ → Machine
-  after₁ place trace = machineOf place (d .match5 .hints) (d .match5 .words) (d .match5 .recorded) (d .match5 .rows) trace
+  after₁ place trace = machineOf place (d .match5 .tags) (d .match5 .words) (d .match5 .recorded) (d .match5 .rows) trace
 
   abbrev Applies : Change → Type 0
   Applies x = (place : Place) (trace : List ℕ) → Applied (g (loop₁ at₁)) (progress (now₁ at₁)) (at₁ .match .computed) x before₁ (after₁ place trace) (d .match5 .new)
@@ -226,10 +226,10 @@ module _ (d : tie.At-match5-came I μ) where
   made =
       ⊎-elim (λ w. making (w .1 .given .1) (λ p t. (w .4, w .3, (w .5, w .2, w .6))))
       (⊎-elim
-      (λ w. making (w .1 .given .1) (λ p t. (w .6 ∙ ap (λ (n : ℕ). set (before₁ .hints) n (byValue (w .1 .given .0 .1 .0))) (w .3 .ensures), w .5, (w .7, w .4, w .8))))
+      (λ w. making (w .1 .given .1) (λ p t. (w .6 ∙ ap (λ (n : ℕ). set (before₁ .tags) n (byValue (w .1 .given .0 .1 .0))) (w .3 .ensures), w .5, (w .7, w .4, w .8))))
       (⊎-elim
       (λ w. making (w .1 .given .1) (λ p t. (
-        w .6 ∙ ap (λ (n : ℕ). set (before₁ .hints) n byLanes) (w .3 .ensures),
+        w .6 ∙ ap (λ (n : ℕ). set (before₁ .tags) n byLanes) (w .3 .ensures),
         w .5 ∙ ap (λ (n : ℕ). set (before₁ .words) n (at₁ .match .computed)) (w .3 .ensures),
         (w .7, w .4, w .8),
       )))
@@ -237,7 +237,7 @@ module _ (d : tie.At-match5-came I μ) where
       (λ w. making (w .1 .given .1) (λ p t. (
         w .5 .result,
         w .5 .ensures,
-        w .8 ∙ ap (λ (n : ℕ). set (before₁ .hints) n byLanes) (w .3 .ensures),
+        w .8 ∙ ap (λ (n : ℕ). set (before₁ .tags) n byLanes) (w .3 .ensures),
         w .7 ∙ ap (λ (n : ℕ). set (before₁ .words) n (w .5 .result)) (w .3 .ensures),
         (w .9, w .6, w .10),
       )))
