@@ -1,6 +1,6 @@
 -- A hint's step only advances. Assumes nothing.
 use mathlib.Core.Bool.{Bool, true, false, _||_}
-use mathlib.Core.Option.{some}
+use mathlib.Core.Option.{Option, some}
 use mathlib.Core.Path.{_≡_, refl}
 use Prim.Native.Nat.{ℕ, _%_, _<_}
 use native.Mathlib.Omega.{arith}
@@ -18,7 +18,6 @@ use Rattle.riscv32imc.specs.Expansion.{expand}
 use Rattle.riscv32imc.specs.Hints.{writesX0}
 use Rattle.riscv32imc.proofs.Hints.{hints-expand}
 use Rattle.riscv_decode.specs.declared.Operation.{Operation}
-use Rattle.riscv_decode.specs.declared.Decoded.the-variants.{Known}
 use Rattle.riscv_decode.specs.Operands.{rs1Field, rs2Field, iImmediate, uImmediate}
 use Rattle.riscv_decode.specs.Listing.{noLine, Opcode, Funct3, Funct7, listing, operation, fixed, has}
 use Rattle.riscv_decode.specs.Decode.{decodeOf}
@@ -37,45 +36,51 @@ use Rattle.predicate_semantics.specs.Scalar as Scalar
 use Rattle.predicate_semantics.specs.Lane as Lane
 use Rattle.predicate_semantics.specs.Hints.{past, HintsOnlyAdvance}
 
--- what can be put into x0 with no test
-data Put : Type 0 where
-  literal : ℕ → Put
-  immediate : Binary → ℕ → ℕ → Put
-  registers : Binary → ℕ → ℕ → Put
+-- a value that is computed with no test, and that x0 discards
+data Discarded : Type 0 where
+  literal : ℕ → Discarded
+  immediate : Binary → ℕ → ℕ → Discarded
+  registers : Binary → ℕ → ℕ → Discarded
 
-intoX0 : Put → Action
+intoX0 : Discarded → Action
 intoX0 (literal v) = Literal 0 v
 intoX0 (immediate f a n) = ComputeImmediate 0 f a n
 intoX0 (registers f a b) = Compute 0 f a b
 
--- a halfword that a core expands to a word whose operation puts a value into x0
-module _ (p : Program) (half word : ℕ) (o : Operation) (v : Put)
-    (two : eqb (half % 4) 3 ≡ false) (x : p .core .expand half ≡ some word) (d : (steps : ℕ) → p .core .decode steps word ≡ some o)
-    (m : (pc : ℕ) → meaning o pc ≡ intoX0 v) where
-  lane-value : (l : Lane.Setup) (s : Lane.LaneState) (next : ℕ) (z : Put) → (w : LaneWord) × (Lane.execute p l s next (intoX0 z) ≡ passed (sets 0 w next))
-  unfolding intoX0 Lane.execute
-  lane-value l s next (literal n) = (constant (Lane.laneCount p l) n, refl)
-  lane-value l s next (immediate f a n) = (binary (valueOf f) (Lane.reg p l s a) (constant (Lane.laneCount p l) n), refl)
-  lane-value l s next (registers f a b) = (binary (valueOf f) (Lane.reg p l s a) (Lane.reg p l s b), refl)
+-- what a word decodes to, where x0 discards its value
+record Discards (d : Option Operation) : Type 0 where
+  decoded : Operation
+  value : Discarded
+  decodes : d ≡ some decoded
+  means : (pc : ℕ) → meaning decoded pc ≡ intoX0 value
 
+lane-value : (p : Program) (l : Lane.Setup) (s : Lane.LaneState) (next : ℕ) (v : Discarded) → (w : LaneWord) × (Lane.execute p l s next (intoX0 v) ≡ passed (sets 0 w next))
+unfolding intoX0 Lane.execute
+lane-value p l s next (literal n) = (constant (Lane.laneCount p l) n, refl)
+lane-value p l s next (immediate f a n) = (binary (valueOf f) (Lane.reg p l s a) (constant (Lane.laneCount p l) n), refl)
+lane-value p l s next (registers f a b) = (binary (valueOf f) (Lane.reg p l s a) (Lane.reg p l s b), refl)
+
+scalar-value : (p : Program) (s : Scalar.ScalarState) (next : ℕ) (v : Discarded) → (w : ℕ) × (Scalar.execute p s next (intoX0 v) ≡ some (sets 0 w next))
+unfolding intoX0 Scalar.execute
+scalar-value p s next (literal n) = (n, refl)
+scalar-value p s next (immediate f a n) = (valueOf f (Scalar.reg s a) n, refl)
+scalar-value p s next (registers f a b) = (valueOf f (Scalar.reg s a) (Scalar.reg s b), refl)
+
+-- a halfword that a core expands to such a word
+module _ (p : Program) (half word : ℕ) (two : eqb (half % 4) 3 ≡ false) (x : p .core .expand half ≡ some word)
+    (discards : (steps : ℕ) → Discards (p .core .decode steps word)) where
   lane-advances : (l : Lane.Setup) (s : Lane.LaneState) → Lane.accessAgreed (Lane.laneCount p l) 1 (Lane.memoryOf p l s) 2 (s .pc) ≡ passed half
       → Lane.step p l s ≡ (require 14 (ltb (s .steps) (l .entries)) >>= λ _. passed (past word s))
   unfolding Lane.step Lane.attempt Lane.fetch Lane.expandHalfword Lane.decodeWord _>>=_ found choose assign advanced apply past
   lane-advances l s a =
-      let q = lane-value l s (add (s .pc) 2) v in
-      rw (a, two, x, d (s .steps), m (s .pc), q .1)
-
-  scalar-value : (s : Scalar.ScalarState) (next : ℕ) (z : Put) → (w : ℕ) × (Scalar.execute p s next (intoX0 z) ≡ some (sets 0 w next))
-  unfolding intoX0 Scalar.execute
-  scalar-value s next (literal n) = (n, refl)
-  scalar-value s next (immediate f a n) = (valueOf f (Scalar.reg s a) n, refl)
-  scalar-value s next (registers f a b) = (valueOf f (Scalar.reg s a) (Scalar.reg s b), refl)
+      let d = discards (s .steps) in
+      rw (a, two, x, d .decodes, d .means (s .pc), lane-value p l s (add (s .pc) 2) (d .value) .1)
 
   scalar-advances : (s : Scalar.ScalarState) → Scalar.access (s .memory) 2 (s .pc) ≡ some half → Scalar.step p s ≡ some (past word s)
   unfolding Scalar.step Scalar.attempt Scalar.fetch Scalar.expandHalfword Scalar.decodeWord Scalar._>>=_ choose assign advanced apply past
   scalar-advances s a =
-      let q = scalar-value s (add (s .pc) 2) v in
-      rw (a, two, x, d (s .steps), m (s .pc), q .1)
+      let d = discards (s .steps) in
+      rw (a, two, x, d .decodes, d .means (s .pc), scalar-value p s (add (s .pc) 2) (d .value) .1)
 
 -- which of four tests is passed
 one-of : {P : Type 0} (a b c d : Bool) → T (a || b || c || d) → (T a → P) → (T b → P) → (T c → P) → (T d → P) → P
@@ -84,18 +89,13 @@ one-of false true c d t f g h k = g tt
 one-of false false true d t f g h k = h tt
 one-of false false false d t f g h k = k t
 
--- a word decodes to an operation that puts a value into x0
-record PutIntoX0 (w : ℕ) : Type 0 where
-  decoded : Operation
-  value : Put
-  decodes : decodeOf w ≡ Known decoded
-  means : (pc : ℕ) → meaning decoded pc ≡ intoX0 value
-
 -- by the place of the word's line in the listing
-of-line : (w i : ℕ) (v : Put) → i < length listing → T (has (fixed (getD listing i noLine)) w) → ((pc : ℕ) → meaning (operation (getD listing i noLine) w) pc ≡ intoX0 v) → PutIntoX0 w
-of-line w i v h t m = record { decoded = operation (getD listing i noLine) w; value = v; decodes = accepted i w h t; means = m }
+of-line : (w i : ℕ) (v : Discarded) → i < length listing → T (has (fixed (getD listing i noLine)) w)
+    → ((pc : ℕ) → meaning (operation (getD listing i noLine) w) pc ≡ intoX0 v) → Discards (decodedOperation (decodeOf w))
+unfolding decodedOperation
+of-line w i v h t m = record { decoded = operation (getD listing i noLine) w; value = v; decodes = rw (accepted i w h t); means = m }
 
-writes-decodes : (w : ℕ) → T (writesX0 w) → PutIntoX0 w
+writes-decodes : (w : ℕ) → T (writesX0 w) → Discards (decodedOperation (decodeOf w))
 unfolding writesX0 listing fixed operation has meaning intoX0
 writes-decodes w t =
     let z : slice w 11 7 ≡ 0 = eqb→eq (slice w 11 7) 0 (and-l (eqb (slice w 11 7) 0) _ t) in
@@ -115,16 +115,15 @@ expands-two h w e = go (eqb (h % 4) 3) refl
     go true q = let z : Refused ≡ Word w = rw (eqb-true (h % 4) 3 q) at e in let y : _≡_ {A = ℕ} 0 1 = cc in absurd (omega arith)
 
 pub hints-only-advance : HintsOnlyAdvance
-unfolding standing standingCore expandedWord decodedOperation
+unfolding standing standingCore expandedWord
 hints-only-advance image symbols half b t =
     let x = hints-expand half b t in
-    let d = writes-decodes (x .0) (x .2) in
-    let l = expands-two half (x .0) (x .1) in
-    let p = standing image symbols in (
+    let two = expands-two half (x .0) (x .1) in
+    let discards = writes-decodes (x .0) (x .2) in (
       x .0,
       x .1,
       record {
-        lanes = lane-advances p half (x .0) (d .decoded) (d .value) l (rw (x .1)) (λ _. rw (d .decodes)) (d .means);
-        scalar = scalar-advances p half (x .0) (d .decoded) (d .value) l (rw (x .1)) (λ _. rw (d .decodes)) (d .means);
+        lanes = lane-advances (standing image symbols) half (x .0) two (rw (x .1)) (λ _. discards);
+        scalar = scalar-advances (standing image symbols) half (x .0) two (rw (x .1)) (λ _. discards);
       },
     )

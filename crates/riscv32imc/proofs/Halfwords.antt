@@ -1,29 +1,30 @@
--- A test of all halfwords holds of each. Assumes nothing.
-use mathlib.Core.Bool.{Bool, true, false, _&&_}
+-- A test that none of all halfwords passes holds of no halfword. Assumes nothing.
+use mathlib.Core.Bool.{Bool, true, false, cond}
 use mathlib.Core.Path.{_≡_, refl, subst}
 use Prim.Native.Nat.{ℕ, zero, suc, _+_, _^_, _≤_, _<_}
 use native.Mathlib.Nat.{pow-suc}
 use native.Mathlib.Omega.{arith}
 use borrow.Author.Tests.{ltb-true, ltb-false}
-use lib.Dec.{T, ltb}
-use lib.Ieee.Fits.{and-l, and-r}
+use lib.Dec.{ltb}
+use Rattle.riscv32imc.specs.Hints.{howMany}
 
--- all of the 2 ^ k numbers from `first` on pass a test; by halves, so that the test of all 2 ^ 16 computes in a depth of 16
-unfoldable pub allPass : (ℕ → Bool) → ℕ → ℕ → Bool
-allPass test zero first = test first
-allPass test (suc k) first = allPass test k first && allPass test k (first + 2 ^ k)
+not-counted : (b : Bool) → _≡_ {A = ℕ} (cond b 1 0) 0 → b ≡ false
+not-counted true e = absurd (omega (arith, e))
+not-counted false e = refl
 
-pub passes-at : (test : ℕ → Bool) (k first i : ℕ) → T (allPass test k first) → first ≤ i → i < first + 2 ^ k → T (test i)
-unfolding allPass
-passes-at test zero first i t l h = let z : first ≡ i = omega arith in subst (λ (x : ℕ). T (test x)) z t
-passes-at test (suc k) first i t l h =
+none-passes : (test : ℕ → Bool) (k first i : ℕ) → howMany test k first ≡ 0 → first ≤ i → i < first + 2 ^ k → test i ≡ false
+unfolding howMany
+none-passes test zero first i e l h = let z : first ≡ i = omega arith in subst (λ (x : ℕ). test x ≡ false) z (not-counted (test first) e)
+none-passes test (suc k) first i e l h =
+    let low : howMany test k first ≡ 0 = omega (arith, e) in
+    let high : howMany test k (first + 2 ^ k) ≡ 0 = omega (arith, e) in
     go (ltb i (first + 2 ^ k)) refl
-    (λ b. passes-at test k first i (and-l (allPass test k first) (allPass test k (first + 2 ^ k)) t) l b)
-    (λ b. passes-at test k (first + 2 ^ k) i (and-r (allPass test k first) (allPass test k (first + 2 ^ k)) t) b (omega (arith, pow-suc 2 k)))
+    (λ b. none-passes test k first i low l b)
+    (λ b. none-passes test k (first + 2 ^ k) i high b (omega (arith, pow-suc 2 k)))
   where
-    go : (b : Bool) → ltb i (first + 2 ^ k) ≡ b → (i < first + 2 ^ k → T (test i)) → (first + 2 ^ k ≤ i → T (test i)) → T (test i)
+    go : (b : Bool) → ltb i (first + 2 ^ k) ≡ b → (i < first + 2 ^ k → test i ≡ false) → (first + 2 ^ k ≤ i → test i ≡ false) → test i ≡ false
     go true e x y = x (ltb-true i (first + 2 ^ k) e)
     go false e x y = y (ltb-false i (first + 2 ^ k) e)
 
-pub each-halfword : (test : ℕ → Bool) → T (allPass test 16 0) → (h : ℕ) → h < 2 ^ 16 → T (test h)
-each-halfword test t h b = passes-at test 16 0 h t (omega arith) (omega arith)
+pub no-halfword : (test : ℕ → Bool) → howMany test 16 0 ≡ 0 → (h : ℕ) → h < 2 ^ 16 → test h ≡ false
+no-halfword test e h b = none-passes test 16 0 h e (omega arith) (omega arith)

@@ -1,4 +1,4 @@
--- The worked examples of expansion, a test of all halfwords, and the claims about hints.
+-- The worked examples of expansion, a law for counts over all halfwords, and the claims about hints.
 pub mod Examples
 pub mod Halfwords
 pub mod Hints
