@@ -14,7 +14,6 @@ use Rattle.predicate_answer.specs.Blank.{noEvents}
 use Rattle.lane_record.specs.declared.RecordAnswer.{RecordAnswer}
 use Rattle.lane_record.specs.declared.RecordAnswer.the-variants as recorded
 use Rattle.lane_record.specs.declared.RecordOutcome.{RecordOutcome}
-use Rattle.lane_record.specs.declared.WriteAnswer.{WriteAnswer}
 use Rattle.lane_record.specs.Format.{heading, event, refusal, kindByte, widths, Record, executionValues, executionFrom, eventValues, eventFrom, refusalValues, refusalFrom}
 use Rattle.lane_record.specs.Decode.{decodeRecord}
 use Rattle.lane_record.specs.Answers.{Said, wrote, done, refuses, writeSaid, noOutcome, readAnswer, readOutcome, readTrace, given, Writes}
@@ -26,12 +25,12 @@ code done = 0
 code (wrote n) = 0
 code (refuses k) = k
 
--- an answer of the writer, as two numbers
-pub record Coded (holds : WriteAnswer → Type 0) (r written : ℕ) : Type 0 where
-  pub answer : WriteAnswer
+-- an answer of the writer, or of a run over a range, as two numbers
+pub record Coded {A : Type 0} (said : A → Said) (holds : A → Type 0) (r written : ℕ) : Type 0 where
+  pub answer : A
   pub held : holds answer
-  pub code-is : r ≡ code (writeSaid answer)
-  pub count-is : written ≡ count (writeSaid answer)
+  pub code-is : r ≡ code (said answer)
+  pub count-is : written ≡ count (said answer)
 
 -- ---- an outcome as words
 
@@ -109,7 +108,7 @@ outcomeFrom ws =
 
 -- what lane_write_record answers and leaves
 abbrev pub WritesWords : List ℕ → List ℕ → List ℕ → ℕ → List ℕ → ℕ → Type 0
-WritesWords ws t out r out′ written = Coded (λ a. Writes (given (outcomeFrom ws) t) out a out′) r written
+WritesWords ws t out r out′ written = Coded writeSaid (λ a. Writes (given (outcomeFrom ws) t) out a out′) r written
 
 -- ---- what holds of the two
 

@@ -3,15 +3,18 @@ mod from_words;
 mod words;
 
 use from_words::outcome_from;
+use lane_library::RunAnswer;
 use lane_record::ReadAnswer;
 use lane_record::WriteAnswer;
+use lane_word::InputRange;
 use predicate_semantics::Rv32SymbolLayout;
 use words::OUTCOME_WORDS;
 use words::words_of;
 ghost use mathlib.Core.Path.{_≡_};
 ghost use Rattle.lane_record.specs.Decode.{decodeRecord};
 ghost use Rattle.lane_record.specs.Answers.{readSaid, writeSaid, given, Writes};
-ghost use Rattle.lane_library.specs.Outcome.{lent, LaneRuns, ImageRuns};
+ghost use Rattle.lane_word.specs.Range.{invalidChannels};
+ghost use Rattle.lane_library.specs.Outcome.{lent, ranSaid, LaneRuns, ImageRuns, RangeRuns};
 ghost use Rattle.lane_exports.specs.Boundary.{code, outcomeFrom, Coded, ReadsWords, WritesWords};
 
 fn code_of(answer: WriteAnswer) -> u32
@@ -32,7 +35,7 @@ pub extern "C" fn lane_run(
     output: &mut [u8],
     written: &mut u64,
 ) -> u32
-    ensures { λ r. ⌜ Coded (λ a. LaneRuns (now (input .entry)) (lent (now (rows .entry)) (now (trace .entry)) (now (output .entry))) a (lent (now (rows .exit)) (now (trace .exit)) (now (output .exit)))) r (now (written .exit)) ⌝ }
+    ensures { λ r. ⌜ Coded writeSaid (λ a. LaneRuns (now (input .entry)) (lent (now (rows .entry)) (now (trace .entry)) (now (output .entry))) a (lent (now (rows .exit)) (now (trace .exit)) (now (output .exit)))) r (now (written .exit)) ⌝ }
 {
     let answer = lane_library::run_input(input, rows, trace, output);
     *written = lane_library::count_of(answer) as u64;
@@ -50,7 +53,7 @@ pub extern "C" fn lane_run_image(
     output: &mut [u8],
     written: &mut u64,
 ) -> u32
-    ensures { λ r. ⌜ Coded (λ a. ImageRuns (now (image .entry)) (record { entry = entry; «event_count» = «event_count»; events = events }) (lent (now (rows .entry)) (now (trace .entry)) (now (output .entry))) a (lent (now (rows .exit)) (now (trace .exit)) (now (output .exit)))) r (now (written .exit)) ⌝ }
+    ensures { λ r. ⌜ Coded writeSaid (λ a. ImageRuns (now (image .entry)) (record { entry = entry; «event_count» = «event_count»; events = events }) invalidChannels (lent (now (rows .entry)) (now (trace .entry)) (now (output .entry))) a (lent (now (rows .exit)) (now (trace .exit)) (now (output .exit)))) r (now (written .exit)) ⌝ }
 {
     let symbols = Rv32SymbolLayout {
         entry: entry,
@@ -60,6 +63,44 @@ pub extern "C" fn lane_run_image(
     let answer = lane_library::run_image(image, symbols, rows, trace, output);
     *written = lane_library::count_of(answer) as u64;
     code_of(answer)
+}
+
+fn ran_code(answer: RunAnswer) -> u32
+    ensures { λ r. ⌜ r ≡ code (ranSaid answer) ⌝ }
+{
+    match answer {
+        RunAnswer::Recorded(written) => code_of(written),
+        RunAnswer::Refused(error) => error.number() as u32,
+    }
+}
+
+#[no_mangle]
+pub extern "C" fn lane_run_range(
+    image: &[u8],
+    entry: u32,
+    event_count: u32,
+    events: u32,
+    first_input: u8,
+    last_input: u8,
+    rows: &mut [u8],
+    trace: &mut [u8],
+    output: &mut [u8],
+    written: &mut u64,
+) -> u32
+    ensures { λ r. ⌜ Coded ranSaid (λ a. RangeRuns (now (image .entry)) (record { entry = entry; «event_count» = «event_count»; events = events }) (record { first = «first_input»; last = «last_input» }) (lent (now (rows .entry)) (now (trace .entry)) (now (output .entry))) a (lent (now (rows .exit)) (now (trace .exit)) (now (output .exit)))) r (now (written .exit)) ⌝ }
+{
+    let symbols = Rv32SymbolLayout {
+        entry: entry,
+        event_count: event_count,
+        events: events,
+    };
+    let range = InputRange {
+        first: first_input,
+        last: last_input,
+    };
+    let answer = lane_library::run_range(image, symbols, range, rows, trace, output);
+    *written = lane_library::ran_count(answer) as u64;
+    ran_code(answer)
 }
 
 fn reading_code(answer: ReadAnswer) -> u32

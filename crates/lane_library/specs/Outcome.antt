@@ -1,15 +1,19 @@
--- The record that an input stands for, and what the run over it answers and leaves (document 01, Record and Who causes a refusal).
+-- The record that an input stands for, and what the run over it answers and leaves (document 01, Record and Who causes a refusal; over a range,
+-- document 02, Three).
 use mathlib.Core.Path.{_≡_}
-use mathlib.Core.Bool.{Bool, true, false}
+use mathlib.Core.Bool.{Bool, true, false, cond}
 use mathlib.Core.Option.{some}
 use mathlib.Core.List.{List}
-use Prim.Native.Nat.{ℕ, _+_, _*_, _≤_}
+use Prim.Native.Nat.{ℕ, _+_, _*_, _≤_, _<_}
 use lib.ListN.{length, take}
 use Rattle.little_endian.specs.Lent.{over}
-use Rattle.lane_word.specs.Word.{firstInput}
+use Rattle.lane_word.specs.declared.InputRange.{InputRange}
+use Rattle.lane_word.specs.Range.{invalidChannels}
 use Rattle.predicate_semantics.specs.declared.Rv32SymbolLayout.{Rv32SymbolLayout}
 use Rattle.predicate_semantics.specs.State.{Result}
-use Rattle.predicate_semantics.specs.Standing.{lastInput, standingLaneRun, standingScalarRun}
+use Rattle.predicate_semantics.specs.Tested.{Tested, passed}
+use Rattle.predicate_semantics.specs.Tested as Tested
+use Rattle.predicate_semantics.specs.Standing.{standingLaneRun, standingScalarRun}
 use Rattle.predicate_answer.specs.Blank.{noEvents}
 use Rattle.predicate_trace.specs.Trace.{traceBytes, stepsAt, entryCount}
 use Rattle.lane_memory.specs.LentRows.{rowCount, cleared}
@@ -22,12 +26,14 @@ use Rattle.lane_record.specs.declared.RecordReading.{RecordReading}
 use Rattle.lane_record.specs.declared.WriteAnswer.{WriteAnswer}
 use Rattle.lane_record.specs.Format.{heading, event, step, size, Record, refused, encode}
 use Rattle.lane_record.specs.Decode.{decodeRecord}
-use Rattle.lane_record.specs.Answers.{Said, wrote, done, refuses, readSaid, writeSaid, Reads, Writes}
-use Rattle.lane_record.specs.Runs.{recordIn}
+use Rattle.lane_record.specs.Answers.{Said, wrote, done, refuses, readSaid, writeSaid, writeAnswer, writeOutput, Reads, Writes}
+use Rattle.lane_record.specs.Runs.{hasRecord, recordIn}
 use Rattle.riscv32imc_predicate.specs.declared.PredicateAnswer.{PredicateAnswer}
 use Rattle.riscv32imc_predicate.specs.declared.PredicateAnswer.the-variants as answer
 use Rattle.riscv32imc_predicate.specs.declared.PredicateRun.{PredicateRun}
 use Rattle.riscv32imc_predicate.specs.Outcome.{runOver}
+use Rattle.lane_library.specs.declared.RunAnswer.{RunAnswer}
+use Rattle.lane_library.specs.declared.RunAnswer.the-variants as ran
 use Rattle.lane_library.specs.Inputs.{symbolsIn, imageIn, taken}
 
 -- Who causes a refusal: a run's answer as its record says it, with the steps that it completed
@@ -43,6 +49,11 @@ outcomeOf r = record { answer = answerOf (r .answer) (r .steps); execution = r .
 abbrev pub sizeRefusal : RecordRefusal
 sizeRefusal = record { number = 1; role = 0; steps = 0 }
 
+-- the answers of a run over a range by their numbers: the writer's, and a refusal that no record holds
+abbrev pub ranSaid : RunAnswer → Said
+ranSaid (ran.Recorded w) = writeSaid w
+ranSaid (ran.Refused x) = refuses (refusalOf x .number)
+
 -- how many bytes an answer says are written
 abbrev pub count : Said → ℕ
 count done = 0
@@ -51,11 +62,11 @@ count (refuses k) = 0
 
 -- ---- the record, and the lent memory after it
 
--- the record of an image's run with so many rows and entries
-abbrev pub runRecord : List ℕ → Rv32SymbolLayout → ℕ → ℕ → Record
-runRecord image symbols rows entries =
-    recordIn image symbols rows entries
-    ((standingLaneRun image symbols rows entries) .state) ((standingLaneRun image symbols rows entries) .answer)
+-- the record of an image's run over a range with so many rows and entries
+abbrev pub runRecord : List ℕ → Rv32SymbolLayout → InputRange → ℕ → ℕ → Record
+runRecord image symbols range rows entries =
+    recordIn image symbols range rows entries
+    ((standingLaneRun image symbols range rows entries) .state) ((standingLaneRun image symbols range rows entries) .answer)
 
 -- the longest record with so many entries (LANE_RECORD_BYTES in include/lane.h)
 abbrev pub recordBytes : ℕ → ℕ
@@ -64,20 +75,20 @@ recordBytes entries = size heading + length noEvents * size event + entries * si
 -- that it is
 abbrev pub RecordFits : Type 0
 RecordFits =
-    (image : List ℕ) (symbols : Rv32SymbolLayout) (rows entries : ℕ)
-    → length (encode (runRecord image symbols rows entries)) ≤ recordBytes entries
+    (image : List ℕ) (symbols : Rv32SymbolLayout) (range : InputRange) (rows entries : ℕ)
+    → length (encode (runRecord image symbols range rows entries)) ≤ recordBytes entries
 
 -- the record of a run over the whole rows and entries that are lent
-abbrev pub imageRecord : List ℕ → Rv32SymbolLayout → List ℕ → List ℕ → Record
-imageRecord image symbols rows trace = runRecord image symbols (rowCount rows) (entryCount trace)
+abbrev pub imageRecord : List ℕ → Rv32SymbolLayout → InputRange → List ℕ → List ℕ → Record
+imageRecord image symbols range rows trace = runRecord image symbols range (rowCount rows) (entryCount trace)
 
 -- Who causes a refusal: the lent trace after it, with an entry for each completed step and the rest as it was
-abbrev pub imageTrace : List ℕ → Rv32SymbolLayout → List ℕ → List ℕ → List ℕ
-imageTrace image symbols rows trace = over (traceBytes ((runOver image symbols rows trace) .state .trace)) trace
+abbrev pub imageTrace : List ℕ → Rv32SymbolLayout → InputRange → List ℕ → List ℕ → List ℕ
+imageTrace image symbols range rows trace = over (traceBytes ((runOver image symbols range rows trace) .state .trace)) trace
 
--- Record: an input's record is its image's where it is taken
+-- Record: an input's record is its image's, over the invalid channels, where it is taken
 abbrev pub inputRecord : Bool → List ℕ → ℕ → ℕ → Record
-inputRecord true input rows entries = runRecord (imageIn input) (symbolsIn input) rows entries
+inputRecord true input rows entries = runRecord (imageIn input) (symbolsIn input) invalidChannels rows entries
 inputRecord false input rows entries = refused sizeRefusal
 
 -- .. over the whole rows and entries that are lent
@@ -86,7 +97,7 @@ recordBy taken input rows trace = inputRecord taken input (rowCount rows) (entry
 
 -- .. and the lent trace after it
 abbrev pub traceBy : Bool → List ℕ → List ℕ → List ℕ → List ℕ
-traceBy true input rows trace = imageTrace (imageIn input) (symbolsIn input) rows trace
+traceBy true input rows trace = imageTrace (imageIn input) (symbolsIn input) invalidChannels rows trace
 traceBy false input rows trace = trace
 
 -- Who causes a refusal: a record is written or does not fit, never breaks the rules, and the rows are zero whatever they held
@@ -104,13 +115,14 @@ resultRead o t =
       events = take (o .execution .«event_count») (o .events);
     }
 
--- Demand 3 of the bytes themselves: what read_record gives of an accepted record is each input's scalar run, whatever the other registers hold
-abbrev pub Promise : List ℕ → Rv32SymbolLayout → WriteAnswer → List ℕ → Type 0
-Promise image symbols r output =
-    (n : ℕ) → writeSaid r ≡ wrote n
+-- Demand 3 of the bytes themselves: what read_record gives of an accepted record is the scalar run of each input of the range that the record
+-- itself carries, whatever the other registers hold
+abbrev pub Promise : List ℕ → Rv32SymbolLayout → Said → List ℕ → Type 0
+Promise image symbols said output =
+    (n : ℕ) → said ≡ wrote n
     → (t : List ℕ) (reading : RecordReading) (t′ : List ℕ) → Reads (decodeRecord (take n output)) t reading t′
     → readSaid (reading .answer) ≡ done → reading .outcome .answer ≡ recorded.Accepted
-    → (i : ℕ) → firstInput ≤ i → i ≤ lastInput
+    → (i : ℕ) → reading .outcome .execution .«first_input» ≤ i → i < reading .outcome .execution .«first_input» + reading .outcome .execution .«lane_count»
     → (others : ℕ → ℕ) → standingScalarRun image symbols i others ≡ some (resultRead (reading .outcome) t′)
 
 -- the bytes that a caller lends, before a call or after it
@@ -123,14 +135,36 @@ pub record LentMemory : Type 0 where
 abbrev pub lent : List ℕ → List ℕ → List ℕ → LentMemory
 lent rows trace output = record { rows = rows; trace = trace; output = output }
 
--- the one outcome for each image and its symbols, and every lent byte after it
-pub record ImageRuns (image : List ℕ) (symbols : Rv32SymbolLayout) (before : LentMemory) (r : WriteAnswer) (after : LentMemory) : Type 0 where
-  pub gives : Gives (imageRecord image symbols (before .rows) (before .trace)) (before .rows) (before .output) r (after .rows) (after .output)
-  pub entries : after .trace ≡ imageTrace image symbols (before .rows) (before .trace)
-  pub promise : Promise image symbols r (after .output)
+-- the one outcome for each image and its symbols over a range whose run has a record, and every lent byte after it
+pub record ImageRuns (image : List ℕ) (symbols : Rv32SymbolLayout) (range : InputRange) (before : LentMemory) (r : WriteAnswer) (after : LentMemory) : Type 0 where
+  pub gives : Gives (imageRecord image symbols range (before .rows) (before .trace)) (before .rows) (before .output) r (after .rows) (after .output)
+  pub entries : after .trace ≡ imageTrace image symbols range (before .rows) (before .trace)
+  pub promise : Promise image symbols (writeSaid r) (after .output)
+
+-- Who causes a refusal: the number of a run's refusal
+abbrev pub refusalNumber : Tested Result → ℕ
+refusalNumber (passed r) = 0
+refusalNumber (Tested.refused q) = q .number
+
+-- the one outcome for each image, symbols and range, and every lent byte after it: where the run has no record, its number is the answer
+-- and nothing is written
+pub record RangeRuns (image : List ℕ) (symbols : Rv32SymbolLayout) (range : InputRange) (before : LentMemory) (r : RunAnswer) (after : LentMemory) : Type 0 where
+  pub answer :
+      ranSaid r
+      ≡ cond (hasRecord ((runOver image symbols range (before .rows) (before .trace)) .answer))
+      (writeAnswer (some (imageRecord image symbols range (before .rows) (before .trace))) (length (before .output)))
+      (refuses (refusalNumber ((runOver image symbols range (before .rows) (before .trace)) .answer)))
+  pub output :
+      after .output
+      ≡ cond (hasRecord ((runOver image symbols range (before .rows) (before .trace)) .answer))
+      (writeOutput (some (imageRecord image symbols range (before .rows) (before .trace))) (before .output))
+      (before .output)
+  pub entries : after .trace ≡ imageTrace image symbols range (before .rows) (before .trace)
+  pub zero : after .rows ≡ cleared (before .rows)
+  pub promise : Promise image symbols (ranSaid r) (after .output)
 
 -- the one outcome for each input of the program's, and every lent byte after it
 pub record LaneRuns (input : List ℕ) (before : LentMemory) (r : WriteAnswer) (after : LentMemory) : Type 0 where
   pub gives : Gives (recordBy (taken input) input (before .rows) (before .trace)) (before .rows) (before .output) r (after .rows) (after .output)
   pub entries : after .trace ≡ traceBy (taken input) input (before .rows) (before .trace)
-  pub promise : Promise (imageIn input) (symbolsIn input) r (after .output)
+  pub promise : Promise (imageIn input) (symbolsIn input) (writeSaid r) (after .output)

@@ -3,15 +3,24 @@ use lane_record::RecordAnswer;
 use lane_record::RecordOutcome;
 use lane_record::RecordRefusal;
 use lane_record::WriteAnswer;
-use predicate_answer::MAX_EVENTS;
+use lane_word::InputRange;
+use predicate_answer::LAST_REFUSAL;
+use predicate_answer::Rv32Error;
 use predicate_semantics::Rv32SymbolLayout;
 use riscv32imc_predicate::PredicateAnswer;
 use riscv32imc_predicate::PredicateRun;
 ghost use mathlib.Core.Path.{_≡_};
 ghost use Rattle.lane_record.specs.Format.{refused};
-ghost use Rattle.lane_record.specs.Answers.{refusedOutcome, writeSaid};
+ghost use Rattle.lane_word.specs.Range.{invalidChannels};
+ghost use Rattle.lane_record.specs.Answers.{refusedOutcome, writeSaid, given, Writes};
 ghost use Rattle.lane_library.specs.Inputs.{symbolsIn, taken};
-ghost use Rattle.lane_library.specs.Outcome.{answerOf, outcomeOf, sizeRefusal, count, Gives, lent, ImageRuns, LaneRuns};
+ghost use Rattle.lane_library.specs.Outcome.{answerOf, outcomeOf, sizeRefusal, ranSaid, count, Gives, lent, ImageRuns, RangeRuns, LaneRuns};
+
+// What a run over a range answers: what the writer of its record does, or a refusal that no record holds.
+pub enum RunAnswer {
+    Recorded(WriteAnswer),
+    Refused(Rv32Error),
+}
 
 // The bytes of the symbols before the image.
 const SYMBOL_BYTES: usize = 12;
@@ -107,6 +116,22 @@ pub fn count_of(answer: WriteAnswer) -> usize
     }
 }
 
+pub fn ran_count(answer: RunAnswer) -> usize
+    ensures { λ r. ⌜ r ≡ count (ranSaid answer) ⌝ }
+{
+    match answer {
+        RunAnswer::Recorded(written) => count_of(written),
+        RunAnswer::Refused(_) => 0,
+    }
+}
+
+fn write_run(run: PredicateRun, trace: &[u8], output: &mut [u8]) -> WriteAnswer
+    ensures { λ r. ⌜ Writes (given (outcomeOf run) (now (trace .entry))) (now (output .entry)) r (now (output .exit)) ⌝ }
+{
+    let outcome = outcome_of(run);
+    lane_record::write_record(outcome, trace, output)
+}
+
 // The run of an image by itself, up to the largest that the run takes; any other has the record of refusal 1.
 pub fn run_image(
     image: &[u8],
@@ -115,11 +140,34 @@ pub fn run_image(
     trace: &mut [u8],
     output: &mut [u8],
 ) -> WriteAnswer
-    ensures { λ r. ⌜ ImageRuns (now (image .entry)) symbols (lent (now (rows .entry)) (now (trace .entry)) (now (output .entry))) r (lent (now (rows .exit)) (now (trace .exit)) (now (output .exit))) ⌝ }
+    ensures { λ r. ⌜ ImageRuns (now (image .entry)) symbols invalidChannels (lent (now (rows .entry)) (now (trace .entry)) (now (output .entry))) r (lent (now (rows .exit)) (now (trace .exit)) (now (output .exit))) ⌝ }
 {
     let run = riscv32imc_predicate::execute_invalid_channel_predicate(image, symbols, rows, trace);
-    let outcome = outcome_of(run);
-    lane_record::write_record(outcome, trace, output)
+    write_run(run, trace, output)
+}
+
+// The same over a range of inputs.
+pub fn run_range(
+    image: &[u8],
+    symbols: Rv32SymbolLayout,
+    range: InputRange,
+    rows: &mut [u8],
+    trace: &mut [u8],
+    output: &mut [u8],
+) -> RunAnswer
+    ensures { λ r. ⌜ RangeRuns (now (image .entry)) symbols range (lent (now (rows .entry)) (now (trace .entry)) (now (output .entry))) r (lent (now (rows .exit)) (now (trace .exit)) (now (output .exit))) ⌝ }
+{
+    let run = riscv32imc_predicate::execute_predicate(image, symbols, range, rows, trace);
+    let answer = run.answer;
+    match answer {
+        PredicateAnswer::Accepted => RunAnswer::Recorded(write_run(run, trace, output)),
+        PredicateAnswer::Refused(error) => {
+            if LAST_REFUSAL < error.number() as u32 {
+                return RunAnswer::Refused(error);
+            }
+            RunAnswer::Recorded(write_run(run, trace, output))
+        }
+    }
 }
 
 // The run of an input as the program takes it: every input has a record, and 16 is the one refusal besides.

@@ -8,11 +8,11 @@ use native.Mathlib.Omega.{arith}
 use borrow.Author.Tests.{le-leb}
 use lib.ListN.{length}
 use Rattle.little_endian.specs.Lent.{over}
+use Rattle.lane_word.specs.Range.{invalidChannels}
 use Rattle.predicate_semantics.specs.declared.Rv32SymbolLayout.{Rv32SymbolLayout}
 use Rattle.predicate_trace.specs.Trace.{entryBytes, entryCount}
 use Rattle.lane_memory.specs.Rows.{rowBytes, rowCount}
 use Rattle.lane_record.specs.declared.WriteAnswer.{WriteAnswer}
-use Rattle.lane_record.specs.declared.WriteAnswer.the-variants.{Written}
 use Rattle.lane_record.specs.Format.{Record, encode}
 use Rattle.lane_record.specs.Answers.{Said, wrote, refuses, writeSaid}
 use Rattle.lane_record.specs.Answers as Answers
@@ -22,7 +22,7 @@ use Rattle.lane_library.proofs.Promise.{size-fits}
 use Rattle.lane_program.specs.Program.{programRecord, ProgramLends, WritesRecord}
 
 fits-by : (b : Bool) (input : List ℕ) (rows entries : ℕ) → length (encode (inputRecord b input rows entries)) ≤ recordBytes entries
-fits-by true input rows entries = size-fits (imageIn input) (symbolsIn input) rows entries
+fits-by true input rows entries = size-fits (imageIn input) (symbolsIn input) invalidChannels rows entries
 fits-by false input rows entries = omega arith
 
 -- what is written of a record that fits
@@ -35,7 +35,7 @@ module _ (x : Record) (output : List ℕ) (w : WriteAnswer) (output′ : List �
   left = h .output ∙ ap (λ (b : Bool). cond b (over (encode x) output) output) (le-leb _ _ l)
 
 -- the promise is of the bytes that are said to be written
-promised : (image : List ℕ) (symbols : Rv32SymbolLayout) (w v : WriteAnswer) (output : List ℕ) → writeSaid w ≡ writeSaid v
+promised : (image : List ℕ) (symbols : Rv32SymbolLayout) (w v : Said) (output : List ℕ) → w ≡ v
     → Promise image symbols w output → Promise image symbols v output
 promised image symbols w v output e p n q = p n (e ∙ q)
 
@@ -67,5 +67,5 @@ module _ (input : List ℕ) (before after : LentMemory) (w : WriteAnswer) (n : �
     fits = omega (arith, sized, fits-by (taken input) input programRows programEntries);
     bytes = left x (before .output) w (after .output) written room;
     promise =
-        promised (imageIn input) (symbolsIn input) w (Written n) (after .output) (told ∙ ap (λ (k : ℕ). wrote k) (sym sized)) (h .promise);
+        promised (imageIn input) (symbolsIn input) (writeSaid w) (wrote n) (after .output) (told ∙ ap (λ (k : ℕ). wrote k) (sym sized)) (h .promise);
   }

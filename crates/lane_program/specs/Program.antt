@@ -7,7 +7,7 @@ use Rattle.little_endian.specs.Lent.{over}
 use Rattle.predicate_trace.specs.Trace.{entryBytes}
 use Rattle.lane_memory.specs.LentRows.{rowBytes}
 use Rattle.lane_record.specs.Format.{Record, encode}
-use Rattle.lane_record.specs.declared.WriteAnswer.the-variants.{Written}
+use Rattle.lane_record.specs.Answers.{wrote}
 use Rattle.lane_library.specs.Inputs.{programRows, programEntries, symbolsIn, imageIn, taken}
 use Rattle.lane_library.specs.Outcome.{inputRecord, recordBytes, Promise}
 use Rattle.lane_program.specs.declared.ProgramOutput.{ProgramOutput}
@@ -27,11 +27,11 @@ pub record WritesRecord (input output : List ℕ) (n : ℕ) (output′ : List �
   pub size : n ≡ length (encode (programRecord input))
   pub fits : n ≤ recordBytes programEntries
   pub bytes : output′ ≡ over (encode (programRecord input)) output
-  pub promise : Promise (imageIn input) (symbolsIn input) (Written n) output′
+  pub promise : Promise (imageIn input) (symbolsIn input) (wrote n) output′
 
 -- the one output for each input: the record, then zeros, with demand 3 of those bytes
 pub record Outputs (input : List ℕ) (r : ProgramOutput) : Type 0 where
   pub size : r .count ≡ length (encode (programRecord input))
   pub fits : r .count ≤ recordBytes programEntries
   pub bytes : r .bytes ≡ over (encode (programRecord input)) (replicate (recordBytes programEntries) 0)
-  pub promise : Promise (imageIn input) (symbolsIn input) (Written (r .count)) (r .bytes)
+  pub promise : Promise (imageIn input) (symbolsIn input) (wrote (r .count)) (r .bytes)

@@ -1,10 +1,12 @@
--- Document 01's record, by computation. Assumes nothing.
+-- Document 01's record and the table of ranges, by computation. Assumes nothing.
 use mathlib.Core.Path.{_≡_, refl}
+use mathlib.Core.Bool.{true}
 use mathlib.Core.Option.{some}
 use mathlib.Core.List.{List, [], _∷_}
 use Prim.Native.Nat.{ℕ}
 use Rattle.lane_record.specs.Format.{Record, accepted, encode}
 use Rattle.lane_record.specs.Decode.{decodeRecord}
+use Rattle.lane_record.specs.Cases.{allTaken, noneTaken, validHeadings, brokenHeadings}
 
 abbrev shown : List ℕ
 shown =
@@ -34,3 +36,11 @@ example-read = refl
 
 pub example-written : encode meant ≡ shown
 example-written = refl
+
+pub ranges-taken : allTaken validHeadings ≡ true
+unfolding decodeRecord
+ranges-taken = refl
+
+pub ranges-broken : noneTaken brokenHeadings ≡ true
+unfolding decodeRecord
+ranges-broken = refl

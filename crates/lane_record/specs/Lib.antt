@@ -5,3 +5,4 @@ pub mod Decode
 pub mod Answers
 pub mod RoundTrip
 pub mod Runs
+pub mod Cases

@@ -1,11 +1,11 @@
 -- The record's rules (Record): the one definition that its writer and its reader cite.
 use mathlib.Core.Bool.{Bool, true, cond, _&&_, _||_}
 use mathlib.Core.List.{List, [], _∷_}
-use Prim.Native.Nat.{ℕ, _-_, _*_}
+use Prim.Native.Nat.{ℕ, _+_, _-_, _*_}
 use lib.Dec.{eqb, leb}
 use lib.ListN.{length}
 use Rattle.riscv32imc.specs.Constants.{maxMemoryBytes, maxSteps}
-use Rattle.lane_word.specs.Word.{firstInput, lanes}
+use Rattle.lane_word.specs.Word.{lanes}
 use Rattle.predicate_trace.specs.declared.PredicateControlStep.{PredicateControlStep}
 use Rattle.predicate_answer.specs.declared.PredicateTransducerExecution.{PredicateTransducerExecution}
 use Rattle.predicate_semantics.specs.Program.{stop}
@@ -26,13 +26,20 @@ minWrittenBytes = 4
 abbrev pub maxWrittenBytes : ℕ
 maxWrittenBytes = maxMemoryBytes - 1
 
--- the numbers of the heading, each against what a run of the lanes can give
+-- a range of bytes: one input at least, and the last is a byte
+abbrev pub rangeValid : ℕ → ℕ → Bool
+rangeValid first count = leb 1 count && leb (first + count) lanes
+
+-- the fewest steps of so many lanes: none where one lane alone is at stop from the first, for two differ there
+abbrev pub fewestSteps : ℕ → ℕ
+fewestSteps count = cond (eqb count 1) 0 1
+
+-- the numbers of the heading, each against what a run can give
 abbrev pub executionValid : PredicateTransducerExecution → Bool
 executionValid e =
-    eqb (e .«first_input») firstInput
-    && eqb (e .«lane_count») lanes
-    && within 1 (e .«symbolic_transitions») maxSteps
-    && eqb (e .«lane_value_operations») (lanes * e .«symbolic_transitions»)
+    rangeValid (e .«first_input») (e .«lane_count»)
+    && within (fewestSteps (e .«lane_count»)) (e .«symbolic_transitions») maxSteps
+    && eqb (e .«lane_value_operations») (e .«lane_count» * e .«symbolic_transitions»)
     && within minWrittenBytes (e .«sparse_memory_bytes») maxWrittenBytes
     && leb (e .«event_count») maxEvents
 

@@ -51,18 +51,30 @@ fn within(low: u32, x: u32, high: u32) -> bool
     both_hold(low <= x, x <= high)
 }
 
+fn range_valid(first: u8, count: u16) -> bool
+    ensures { λ r. ⌜ r ≡ rules.rangeValid first count ⌝ }
+{
+    both_hold(
+        1 <= count,
+        first as usize + count as usize <= LaneWord::LANES,
+    )
+}
+
+fn fewest_steps(count: u16) -> u32
+    ensures { λ r. ⌜ r ≡ rules.fewestSteps count ⌝ }
+{
+    if count == 1 { 0 } else { 1 }
+}
+
 pub fn execution_valid(e: PredicateTransducerExecution) -> bool
     ensures { λ r. ⌜ r ≡ rules.executionValid e ⌝ }
 {
     let steps = e.symbolic_transitions;
-    let inputs = both_hold(
-        e.first_input == LaneWord::FIRST_INPUT,
-        e.lane_count as usize == LaneWord::LANES,
-    );
-    let bounded = both_hold(inputs, within(1, steps, MAX_STEPS));
+    let inputs = range_valid(e.first_input, e.lane_count);
+    let bounded = both_hold(inputs, within(fewest_steps(e.lane_count), steps, MAX_STEPS));
     let counted = both_hold(
         bounded,
-        e.lane_value_operations as u64 == (LaneWord::LANES as u64) * (steps as u64),
+        e.lane_value_operations as u64 == (e.lane_count as u64) * (steps as u64),
     );
     both_hold(
         both_hold(

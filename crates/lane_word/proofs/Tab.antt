@@ -35,7 +35,7 @@ module _ {g : ℕ → ℕ} {n : ℕ} {out : List ℕ} {k : ℕ} (t : Tab g n out
       (λ i hi. t .done i (omega (arith, t .long)) ∙ sym (f i (omega (arith, t .long))))
 
 -- the lists that such a loop makes, by their elements
-getD-map : (f : ℕ → ℕ) (l : List ℕ) (i : ℕ) → i < length l → getD (map f l) i 0 ≡ f (getD l i 0)
+pub getD-map : (f : ℕ → ℕ) (l : List ℕ) (i : ℕ) → i < length l → getD (map f l) i 0 ≡ f (getD l i 0)
 getD-map f [] i h = omega arith
 getD-map f (x ∷ l) zero h = refl
 getD-map f (x ∷ l) (suc i) h = getD-map f l i (omega arith)
@@ -74,9 +74,6 @@ pub tab-zip : (f : ℕ → ℕ → ℕ) (l r : List ℕ) {n : ℕ} {out : List �
     Tab (λ i. f (getD l i 0) (getD r i 0)) n out k → n ≤ k → length l ≡ n → length r ≡ n → out ≡ zip f l r
 tab-zip f l r t h e d =
     tab-exit t h (zip f l r) (length-zip f l r (e ∙ sym d) ∙ e) (λ i hi. getD-zip f l r i (omega arith) (e ∙ sym d))
-
-pub tab-inputs : (first : ℕ) {n : ℕ} {out : List ℕ} {k : ℕ} → Tab (λ i. first + i) n out k → n ≤ k → out ≡ inputs first n
-tab-inputs first {n} t h = tab-exit t h (inputs first n) (length-inputs first n) (getD-inputs first n)
 
 -- a loop in the place of the right operand: the first k of r's n elements are f of l's and theirs, the others are r's still
 pub record Zipping (f : ℕ → ℕ → ℕ) (l r : List ℕ) (n : ℕ) (out : List ℕ) (k : ℕ) : Type 0 where

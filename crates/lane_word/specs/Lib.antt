@@ -1,5 +1,7 @@
--- To believe: lane words, and that one flag stands for all of a word's.
+-- To believe: lane words, which inputs the lanes are for, and that one flag stands for all of a word's.
 pub mod Word
+pub mod Range
 pub mod Flags
--- For the code's proofs: words told by one value.
+-- For the code's proofs: words told by one value, and lanes without an input of their own.
 pub mod Told
+pub mod Spare

@@ -8,13 +8,9 @@ use Rattle.lane_word.specs.declared.LaneWord.{LaneWord}
 use Rattle.lane_word.specs.declared.Uniform.{Uniform}
 use Rattle.lane_word.specs.declared.Uniform.the-variants.{Value, Unknown, Uneven}
 
--- the input that lane 0 is for; each lane after it is for the next input
-abbrev pub firstInput : ℕ
-firstInput = 6
-
--- one for every input from there up to 255
+-- how many a word of the code has: one for every byte
 abbrev pub lanes : ℕ
-lanes = 250
+lanes = 256
 
 -- a word of which nothing is known, one value in every lane, and each lane its own input
 unfoldable pub unknown : ℕ → LaneWord

@@ -5,7 +5,9 @@ ghost use lib.ListN.{length};
 ghost use Rattle.rv32_arithmetic.specs.Arithmetic.{add, sub, sll, srl, sra, slt, sltu, and, or, xor, mul, mulh, mulhsu, mulhu, div, divu, rem, remu, beq, bne, bge, bgeu, target};
 ghost use Rattle.rv32_arithmetic.specs.Bits.{signExtend};
 ghost use Rattle.rv32_arithmetic.specs.Value.{valueOf};
-ghost use Rattle.lane_word.specs.Word.{firstInput, lanes, unknown, constant, domain, inputs, zip, unary, binary, uniformOf};
+ghost use Rattle.lane_word.specs.Word.{lanes, unknown, constant, domain, zip, unary, binary, uniformOf};
+ghost use Rattle.lane_word.specs.Range.{invalidChannels, inputCount};
+ghost use Rattle.lane_word.specs.Spare.{laneInputs};
 ghost use Rattle.lane_word.specs.Told.{wordOf, toldBy};
 use rv32_arithmetic::Binary;
 use rv32_arithmetic::value;
@@ -14,6 +16,12 @@ use rv32_arithmetic::value;
 pub struct LaneWord {
     pub values: [u32; LaneWord::LANES],
     pub known: bool,
+}
+
+// The inputs that the lanes are for: from the first to the last, both of them too.
+pub struct InputRange {
+    pub first: u8,
+    pub last: u8,
 }
 
 // What the uniform test finds.
@@ -94,11 +102,36 @@ pub fn told_by(operation: Binary, left: Told, right: Told) -> Told
     }
 }
 
-impl LaneWord {
-    // Lane 0's input; the lanes after it have the next ones.
-    pub const FIRST_INPUT: u8 = 6;
+impl InputRange {
+    // The first byte that names no channel of six, and the last byte.
+    pub const FIRST_INVALID: u8 = 6;
 
-    pub const LANES: usize = 250;
+    pub const LAST_INPUT: u8 = 255;
+
+    // The bytes that name no channel.
+    pub fn invalid_channels() -> InputRange
+        ensures { λ r. ⌜ r ≡ invalidChannels ⌝ }
+    {
+        InputRange {
+            first: InputRange::FIRST_INVALID,
+            last: InputRange::LAST_INPUT,
+        }
+    }
+
+    // None where the first is above the last.
+    pub fn count(self) -> u16
+        ensures { λ r. ⌜ r ≡ inputCount self ⌝ }
+    {
+        if self.last < self.first {
+            return 0;
+        }
+        (self.last - self.first) as u16 + 1
+    }
+}
+
+impl LaneWord {
+    // One for every byte.
+    pub const LANES: usize = 256;
 
     pub fn unknown() -> LaneWord
         ensures { λ r. ⌜ r ≡ unknown lanes ⌝ }
@@ -118,13 +151,16 @@ impl LaneWord {
         }
     }
 
-    pub fn input_domain() -> LaneWord
-        ensures { λ r. ⌜ r ≡ domain (inputs firstInput lanes) ⌝ }
+    // Each lane's input; a lane without one repeats lane 0's, which no test can tell from that lane alone.
+    pub fn input_domain(range: InputRange) -> LaneWord
+        ensures { λ r. ⌜ r ≡ domain (laneInputs range) ⌝ }
     {
-        let mut values = [0u32; LaneWord::LANES];
-        let mut input: u32 = LaneWord::FIRST_INPUT as u32;
+        let count = range.count() as usize;
+        let first = range.first as u32;
+        let mut values = [first; LaneWord::LANES];
+        let mut input: u32 = first;
         let mut k: usize = 0;
-        while k < LaneWord::LANES {
+        while k < count {
             values[k] = input;
             input += 1;
             k += 1;

@@ -1,11 +1,11 @@
--- Document 01's number and role for each refusal ("Who causes a refusal").
+-- Document 01's number and role for each refusal ("Who causes a refusal"), and document 02's.
 use Prim.Native.Nat.{ℕ}
 use Rattle.predicate_answer.specs.declared.Role.{Role}
 use Rattle.predicate_answer.specs.declared.Role.the-variants as role
 use Rattle.predicate_answer.specs.declared.Rv32Error.{Rv32Error}
 use Rattle.predicate_answer.specs.declared.Rv32Error.the-variants as error
 
--- the last of the numbers and of the roles, which begin at 1
+-- the last of the numbers that a record holds, and of the roles; both begin at 1
 abbrev pub lastRefusal : ℕ
 lastRefusal = 14
 
@@ -46,3 +46,4 @@ refusalOf error.StoreBelowImageEnd = record { number = 11; role = 0 }
 refusalOf error.EventCount = record { number = 12; role = 0 }
 refusalOf error.NoRow = record { number = 13; role = 0 }
 refusalOf error.NoTraceEntry = record { number = 14; role = 0 }
+refusalOf error.FirstAboveLast = record { number = 17; role = 0 }

@@ -55,15 +55,16 @@ pub enum Rv32Error {
     EventCount,
     NoRow,
     NoTraceEntry,
+    FirstAboveLast,
 }
 
-// The last number of a run's refusals, and the last role; both begin at 1.
+// The last number of the refusals that a record holds, and the last role; both begin at 1. The numbers after it are answers without a record.
 pub const LAST_REFUSAL: u32 = 14;
 
 pub const LAST_ROLE: u32 = 10;
 
-// Each refusal in words, from number 1 on, after a stroke; 15 and 16 are what a record's reader and writer refuse with.
-pub const REFUSAL_TEXTS: [u8; 455] = *b"|the image is empty or too large\
+// Each refusal in words, from number 1 on, after a stroke; 15 and 16 are what a record's reader and writer refuse with, and 17 is a run's again.
+pub const REFUSAL_TEXTS: [u8; 478] = *b"|the image is empty or too large\
 |a symbol lies outside memory\
 |not at stop after 1,000,000 steps\
 |address below memory\
@@ -78,7 +79,8 @@ pub const REFUSAL_TEXTS: [u8; 455] = *b"|the image is empty or too large\
 |more distinct written bytes than rows lent\
 |more steps than trace entries lent\
 |the record's rules are broken\
-|output too short for the record";
+|output too short for the record\
+|first input above last";
 
 // Each role in words, from 1 on.
 pub const ROLE_TEXTS: [u8; 100] = *b"|fetch\
@@ -130,6 +132,7 @@ impl Rv32Error {
             Rv32Error::EventCount => 12,
             Rv32Error::NoRow => 13,
             Rv32Error::NoTraceEntry => 14,
+            Rv32Error::FirstAboveLast => 17,
         }
     }
 
@@ -152,6 +155,7 @@ impl Rv32Error {
             Rv32Error::EventCount => 0,
             Rv32Error::NoRow => 0,
             Rv32Error::NoTraceEntry => 0,
+            Rv32Error::FirstAboveLast => 0,
         }
     }
 }

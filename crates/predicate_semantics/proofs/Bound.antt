@@ -11,12 +11,13 @@ use Rattle.riscv32imc.specs.Constants.{imageBase}
 use Rattle.riscv_decode.specs.declared.Fetched.{Fetched}
 use Rattle.riscv_decode.specs.declared.Operation.the-variants.{Jal}
 use Rattle.lane_word.specs.Word.{constant}
+use Rattle.lane_word.specs.Range.{invalidChannels}
 use Rattle.predicate_trace.specs.declared.PredicateControlStep.{PredicateControlStep}
 use Rattle.predicate_semantics.specs.Program.{Program, sized, inMemory, symbolsPlaced}
 use Rattle.predicate_semantics.specs.State.{sets, assign, advanced, apply}
 use Rattle.predicate_semantics.specs.Tested.{passed, refuse, require, _>>=_}
 use Rattle.predicate_semantics.specs.Lane.{LaneState, Setup, Ended, on, laneCount, attempt, step, run, startTests, begin, start, laneRun}
-use Rattle.predicate_semantics.specs.Standing.{standing, setup, standingLaneRun}
+use Rattle.predicate_semantics.specs.Standing.{standing, rangeTest, setup, standingLaneRun}
 use Rattle.predicate_semantics.specs.Cases.{symbols, refuses, meets, holds}
 use Rattle.predicate_semantics.specs.Bound.{RefusedAtBound, StepBound}
 use Rattle.predicate_semantics.proofs.Laws.{run-out, run-next}
@@ -32,7 +33,7 @@ module _ (image : List ℕ) (rows entries : ℕ) where
   p = standing image (symbols imageBase)
 
   abbrev l : Setup
-  l = setup rows entries
+  l = setup invalidChannels rows entries
 
   -- the run's first state, some steps and their trace later
   abbrev spun : ℕ → List PredicateControlStep → LaneState
@@ -51,7 +52,7 @@ module _ (image : List ℕ) (rows entries : ℕ) where
         → attempt p l (spun n trace) ≡ passed (record { fetched = jump-to-itself bytes; effect = sets 0 (constant (laneCount p l) (add imageBase bytes)) imageBase })
 
   starts : sized (length image) ≡ true → 4 ≤ rows → start p l ≡ passed (spun 0 [])
-  unfolding start startTests symbolsPlaced inMemory require _>>=_ begin standing setup symbols
+  unfolding start startTests symbolsPlaced inMemory require _>>=_ begin standing rangeTest setup symbols
   starts small lent = rw (small, le-leb 4 rows lent)
 
   module _ {bytes : ℕ} (spins : Spins bytes) where

@@ -36,5 +36,5 @@ unfolding Scalar._>>=_ Scalar.require Scalar.put Scalar.read Scalar.write Scalar
 scalar = tt
 
 unfoldable pub standing : Unit {0}
-unfolding Standing.expandedWord Standing.decodedOperation Standing.standingCore Standing.standing Standing.setup Standing.standingLaneRun Standing.standingScalarRun
+unfolding Standing.expandedWord Standing.decodedOperation Standing.standingCore Standing.standing Standing.rangeTest Standing.setup Standing.standingLaneRun Standing.standingScalarRun
 standing = tt

@@ -1,4 +1,4 @@
--- Demand 3: while the run goes on and where it accepts, over any list of inputs, and then for the standing ones.
+-- Demand 3: while the run goes on and where it accepts, over any list of inputs, and then for a range of them.
 use mathlib.Core.Path.{_≡_, refl, _∙_, ap}
 use mathlib.Core.Bool.{Bool, true, false}
 use mathlib.Core.Option.{some}
@@ -7,8 +7,8 @@ use native.Mathlib.Omega.{arith}
 use lib.Dec.{eqb}
 use lib.ListN.{getElem?}
 use Rattle.riscv32imc.specs.Constants.{maxSteps}
-use Rattle.lane_word.specs.Word.{firstInput, inputs}
-use Rattle.lane_word.specs.Word as Word
+use Rattle.lane_word.specs.Word.{inputs}
+use Rattle.lane_word.specs.Range.{inputCount}
 use Rattle.predicate_semantics.specs.Program.{Program, stop}
 use Rattle.predicate_semantics.specs.Choice.{choose}
 use Rattle.predicate_semantics.specs.Tested.{Tested, passed, refused, ifPassed}
@@ -89,6 +89,6 @@ inputs-at first (suc count) (suc k) h = inputs-at (suc first) count k (omega ari
 
 pub guarantee : Guarantee
 unfolding setup standingLaneRun standingScalarRun
-guarantee image symbols rows entries r e input low high others =
-    acceptance-guarantee (standing image symbols) (setup rows entries) maxSteps r e (input - firstInput) input
-    (inputs-at firstInput Word.lanes (input - firstInput) (omega arith) ∙ ap some (omega arith)) others
+guarantee image symbols range rows entries r e input low high others =
+    acceptance-guarantee (standing image symbols) (setup range rows entries) maxSteps r e (input - range .first) input
+    (inputs-at (range .first) (inputCount range) (input - range .first) (omega arith) ∙ ap some (omega arith)) others

@@ -1,10 +1,14 @@
 -- What is proved of the two runs: demand 3, the table of cases, the record's rules, and laws that the proof of a loop cites.
 pub mod Lists
 pub mod Sim
+pub mod Related
 pub mod Values
 pub mod Steps
 pub mod Sources
 pub mod Guarantee
+pub mod Places
+pub mod Repeated
+pub mod SpareLanes
 pub mod Laws
 pub mod Computing
 pub mod Cases

@@ -1,14 +1,14 @@
 -- The record's rules hold of every run.
 use mathlib.Core.Path.{_≡_, refl, sym, _∙_, subst}
 use mathlib.Core.Bool.{Bool, true, false, _&&_, cond}
-use mathlib.Core.Logic.{_⊎_, inl, inr, ⊎-elim}
+use mathlib.Core.Logic.{_⊎_, inl, inr}
 use mathlib.Core.List.{List, [], _∷_, _++_, map}
 use Prim.Native.Nat.{ℕ, zero, suc, _+_, _-_, _≤_, _<_, _%_, _^_}
 use native.Mathlib.Nat.{le-trans}
 use native.Mathlib.Omega.{arith}
 use lib.Dec.{T, leb, ltb, eqb, leb→le, ltb→lt, eqb→eq}
 use lib.ListN.{getD, length, length-append}
-use borrow.Author.Tests.{eqb-true, eqb-false}
+use borrow.Author.Tests.{eqb-true, eqb-false, eq-eqb, ne-eqb, ltb-true, ltb-false, leb-true}
 use Rattle.riscv32imc.specs.Constants.{imageBase, maxImageBytes, maxMemoryBytes, maxSteps}
 use Rattle.rv32_arithmetic.specs.Arithmetic.{target}
 use Rattle.rv32_arithmetic.specs.Bits.{join}
@@ -16,7 +16,10 @@ use Rattle.riscv_decode.specs.declared.Fetched.{Fetched}
 use Rattle.riscv_decode.specs.declared.Operation.{Operation}
 use Rattle.lane_word.specs.declared.LaneWord.{LaneWord}
 use Rattle.lane_word.specs.declared.Uniform.the-variants.{Value, Unknown, Uneven}
-use Rattle.lane_word.specs.Word.{unknown, constant, domain, zip, unary, binary, every, uniformOf, inputs}
+use Rattle.lane_word.specs.Word.{constant, domain, zip, unary, binary, every, uniformOf, inputs}
+use Rattle.lane_word.specs.declared.InputRange.{InputRange}
+use Rattle.lane_word.specs.Range.{inputCount}
+use Rattle.lane_word.proofs.Tab.{length-inputs, getD-inputs}
 use Rattle.predicate_action.specs.declared.Action.{Action}
 use Rattle.predicate_action.specs.declared.Action.the-variants.{Nothing, Literal, Compute, ComputeImmediate, Jump, JumpTo, Branch, Load, Store}
 use Rattle.predicate_action.specs.Meaning.{meaning}
@@ -29,13 +32,13 @@ use Rattle.predicate_semantics.specs.Program.{Program, memoryEnd, stop, 
 use Rattle.predicate_answer.specs.Blank.{maxEvents}
 use Rattle.predicate_semantics.specs.State.{Result, Effect, goes, sets, stores, Attempted, fill, atStart, recorded, advanced, apply}
 use Rattle.predicate_semantics.specs.Memory.{Written, LaneBytes, put, read, write}
-use Rattle.predicate_semantics.specs.Tested.{Tested, passed, refused, refuse, _>>=_}
+use Rattle.predicate_semantics.specs.Tested.{Tested, passed, refused, refuse, require, _>>=_}
 use Rattle.predicate_answer.specs.Refusal.{Refusal}
-use Rattle.predicate_semantics.specs.Lane.{LaneState, Setup, Ended, on, inside, laneCount, memoryOf, agreedAs, agreed, reg, access, accessAgreed, roomFor, decodeWord, expandHalfword, fetchFour, fetch, eventAt, execute, attempt, step, events, finishEvents, finish, run, begin, start, laneRun}
-use Rattle.predicate_semantics.specs.Standing.{standingCore, standing, setup, standingLaneRun}
+use Rattle.predicate_semantics.specs.Lane.{LaneState, Setup, Ended, on, inside, laneCount, memoryOf, agreedAs, agreed, reg, access, accessAgreed, roomFor, decodeWord, expandHalfword, fetchFour, fetch, eventAt, execute, attempt, step, events, finishEvents, finish, run, begin, start, laneRun, laneOperations, writtenBytes, execution}
+use Rattle.predicate_semantics.specs.Standing.{standingCore, standing, rangeTest, setup, standingLaneRun}
 use Rattle.predicate_semantics.specs.Order.{StartOrder}
 use Rattle.predicate_semantics.specs.Kept.{Distinct, Sized, Stored, Traced, Kept}
-use Rattle.predicate_semantics.specs.RecordRules.{Chain, Words, ExpandsToWords, Completed, Accepted, TakesStep, proper}
+use Rattle.predicate_semantics.specs.RecordRules.{Chain, Words, ExpandsToWords, Completed, Accepted, numbersOver, TakesStep, proper}
 use Rattle.predicate_semantics.proofs.Lists.{both-left, both-right}
 use Rattle.predicate_semantics.proofs.Laws.{run-stop, steps-apply, write-grows}
 use Rattle.predicate_semantics.proofs.Order.{start-order}
@@ -382,15 +385,52 @@ module _ (p : Program) (l : Setup) where
         lent = k .stored .most;
       }
 
-  -- where the caller's choice passed
-  pub refused-proper : (limit : ℕ) (r : Refusal) → l .choice ≡ passed tt → (laneRun p l limit) .answer ≡ refused r → T (proper r)
-  refused-proper limit r c e = ⊎-elim (λ t. t) (λ q. absurd (no-pass (sym q ∙ c))) (refuses (rw e at (ends-laneRun limit .2)))
+  -- a refusal that a record can hold, or that of the caller's choice
+  pub refused-proper : (limit : ℕ) (r : Refusal) → (laneRun p l limit) .answer ≡ refused r → T (proper r) ⊎ (l .choice ≡ refused r)
+  refused-proper limit r e = refuses (rw e at (ends-laneRun limit .2))
 
--- x10 is the input: at entry = stop the return value is not uniform
-uneven : (image : List ℕ) (symbols : Rv32SymbolLayout) (rows entries : ℕ)
-    → finish (standing image symbols) (setup rows entries) (begin (standing image symbols) (setup rows entries)) ≡ refuse 7 6
-unfolding finish begin standing setup standingCore fill atStart choose reg agreed every uniformOf domain inputs refuse _>>=_ laneCount constant unknown
-uneven image symbols rows entries = refl
+-- where the run accepts, the caller's choice passed
+module _ (p : Program) (l : Setup) (limit : ℕ) (r : Result) (e : (laneRun p l limit) .answer ≡ passed r) where
+  pub chosen : l .choice ≡ passed tt
+  unfolding laneRun on refuse
+  chosen = go (sized (length (p .image))) (symbolsPlaced (p .symbols)) (l .choice) refl refl refl
+    where
+      order : StartOrder p l
+      order = start-order p l
+
+      go : (a b : Bool) (t : Tested (Unit {0})) → sized (length (p .image)) ≡ a → symbolsPlaced (p .symbols) ≡ b → l .choice ≡ t → t ≡ passed tt
+      go false b t f g c = absurd (no-pass (rw (order .image f) at e))
+      go true false t f g c = absurd (no-pass (rw (order .symbols f g) at e))
+      go true true (refused q) f g c = absurd (no-pass (rw (order .choice f g q c) at e))
+      go true true (passed u) f g c = refl
+
+-- .. so the first input of its range is not above the last
+ordered-by : (first last : ℕ) → require 17 (leb first last) ≡ passed tt → first ≤ last
+unfolding require refuse
+ordered-by first last = go (leb first last) refl
+  where
+    go : (b : Bool) → leb first last ≡ b → require 17 b ≡ passed tt → first ≤ last
+    go true b q = leb-true first last b
+    go false b q = absurd (no-pass q)
+
+pub ordered : (range : InputRange) → rangeTest range ≡ passed tt → range .first ≤ range .last
+unfolding rangeTest
+ordered range q = ordered-by (range .first) (range .last) q
+
+-- the numbers are those of its inputs
+pub execution-over : (p : Program) (range : InputRange) (rows entries : ℕ) (s : LaneState) (r : Result) → range .first ≤ range .last
+    → execution p (setup range rows entries) s r ≡ numbersOver range (s .steps) (length (s .memory)) r
+unfolding execution setup laneCount laneOperations writtenBytes
+execution-over p range rows entries s r h =
+    let first : getD (inputs (range .first) (inputCount range)) 0 0 ≡ range .first = getD-inputs (range .first) (inputCount range) 0 (omega arith) ∙ omega arith in
+    rw (first, length-inputs (range .first) (inputCount range))
+
+-- inputs that are more than one differ
+differ : (first count : ℕ) → 1 < count → uniformOf (domain (inputs first count)) ≡ Uneven
+unfolding uniformOf domain inputs every
+differ first zero h = absurd (omega arith)
+differ first (suc zero) h = absurd (omega arith)
+differ first (suc (suc n)) h = rw (eq-eqb first first refl, ne-eqb (suc first) first (λ q. omega (arith, q)))
 
 always-on : {R : Refusal → Type 0} {P : LaneState → Type 0} {Q : Result → Type 0} (s : LaneState) {m : Tested LaneState} (f : LaneState → Ended)
     → Always R P m → ((t : LaneState) → P t → Always R Q (f t .answer)) → Always R Q (on s m f .answer)
@@ -398,35 +438,45 @@ unfolding on
 always-on s f (stops r t) h = stops r t
 always-on s f (gives k) h = h _ k
 
-refused-at-stop : (image : List ℕ) (symbols : Rv32SymbolLayout) (rows entries : ℕ) → eqb (symbols .entry) stop ≡ true
-    → Always (Proper (standing image symbols) (setup rows entries)) (λ _. ⊥) (standingLaneRun image symbols rows entries .answer)
-unfolding standingLaneRun laneRun begin standing refuse proper
-refused-at-stop image symbols rows entries b =
-    always-on _ _ (always-start p l) (λ t h. rw (h .1, run-stop p l maxSteps (begin p l) b, uneven image symbols rows entries) (stops _ (inl tt)))
-  where
-    p : Program
-    p = standing image symbols
+module _ (image : List ℕ) (symbols : Rv32SymbolLayout) (range : InputRange) (rows entries : ℕ) where
+  abbrev standingProgram : Program
+  standingProgram = standing image symbols
 
-    l : Setup
-    l = setup rows entries
+  abbrev rangeSetup : Setup
+  rangeSetup = setup range rows entries
 
-pub takes-step : TakesStep
-unfolding standingLaneRun standing
-takes-step image symbols rows entries r e = go (eqb (symbols .entry) stop) refl
-  where
-    p : Program
-    p = standing image symbols
+  -- x10 is the input: at entry = stop the return value is not uniform
+  uneven : 1 < inputCount range → finish standingProgram rangeSetup (begin standingProgram rangeSetup) ≡ refuse 7 6
+  unfolding finish begin standing setup standingCore fill atStart choose reg agreed refuse _>>=_
+  uneven h = rw (differ (range .first) (inputCount range) h)
 
-    l : Setup
-    l = setup rows entries
+  refused-at-stop : 1 < inputCount range → eqb (symbols .entry) stop ≡ true
+      → Always (Proper standingProgram rangeSetup) (λ _. ⊥) (standingLaneRun image symbols range rows entries .answer)
+  unfolding standingLaneRun laneRun begin standing refuse proper
+  refused-at-stop h b =
+      always-on _ _ (always-start standingProgram rangeSetup)
+      (λ t k. rw (k .1, run-stop standingProgram rangeSetup maxSteps (begin standingProgram rangeSetup) b, uneven h) (stops _ (inl tt)))
+
+  module _ (r : Result) (e : (standingLaneRun image symbols range rows entries) .answer ≡ passed r) where
+    some-input : 1 ≤ inputCount range
+    unfolding standingLaneRun setup
+    some-input = omega (arith, ordered range (chosen standingProgram rangeSetup maxSteps r e))
 
     positive : (t : List PredicateControlStep) {to : ℕ} → eqb (symbols .entry) stop ≡ false → to ≡ stop → Chain (symbols .entry) t to → 1 ≤ length t
     positive [] b a c = absurd (eqb-false _ _ b (c ∙ a))
     positive (d ∷ t) b a c = omega arith
 
-    go : (b : Bool) → eqb (symbols .entry) stop ≡ b → 1 ≤ r .steps
-    go true b = absurd (passes (rw e at (refused-at-stop image symbols rows entries b)))
-    go false b =
-        let a : Accepted l (standingLaneRun image symbols rows entries .state) r = accepted p l maxSteps r e in
-        let c : Completed p l maxSteps (standingLaneRun image symbols rows entries .state) = completed p l maxSteps in
-        omega (arith, positive (standingLaneRun image symbols rows entries .state .trace) b (a .arrived) (c .chain), c .counted, a .steps)
+    one-input : (b : Bool) → eqb (symbols .entry) stop ≡ true → ltb 1 (inputCount range) ≡ b → inputCount range ≡ 1
+    one-input true a b = absurd (passes (rw e at (refused-at-stop (ltb-true 1 (inputCount range) b) a)))
+    one-input false a b = omega (arith, some-input, ltb-false 1 (inputCount range) b)
+
+    steps-by : (b : Bool) → eqb (symbols .entry) stop ≡ b → (1 ≤ r .steps) ⊎ (inputCount range ≡ 1)
+    unfolding standingLaneRun standing
+    steps-by true b = inr (one-input (ltb 1 (inputCount range)) b refl)
+    steps-by false b =
+        let a : Accepted rangeSetup (standingLaneRun image symbols range rows entries .state) r = accepted standingProgram rangeSetup maxSteps r e in
+        let c : Completed standingProgram rangeSetup maxSteps (standingLaneRun image symbols range rows entries .state) = completed standingProgram rangeSetup maxSteps in
+        inl (omega (arith, positive (standingLaneRun image symbols range rows entries .state .trace) b (a .arrived) (c .chain), c .counted, a .steps))
+
+pub takes-step : TakesStep
+takes-step image symbols range rows entries r e = steps-by image symbols range rows entries r e (eqb (symbols .entry) stop) refl

@@ -18,7 +18,7 @@ use Rattle.predicate_answer.specs.declared.CompiledMmioEvent.{CompiledMmioEvent
 use Rattle.predicate_semantics.specs.declared.Rv32SymbolLayout.{Rv32SymbolLayout}
 use Rattle.predicate_semantics.specs.Choice.{choose}
 use Rattle.predicate_semantics.specs.Program.{Program, memoryEnd, stop, stopWord, stackPointer}
-use Rattle.predicate_semantics.specs.State.{Effect, goes, sets, stores, Attempted, advanced, apply}
+use Rattle.predicate_semantics.specs.State.{Effect, Attempted, advanced, apply}
 use Rattle.predicate_semantics.specs.Memory.{Written, LaneBytes, laneBytes}
 use Rattle.predicate_semantics.specs.Memory as Memory
 use Rattle.predicate_semantics.specs.Tested.{Tested, refuse, require, ifPassed}
@@ -27,7 +27,8 @@ use Rattle.predicate_semantics.specs.Lane as Lane
 use Rattle.predicate_semantics.specs.Scalar.{Bytes, ScalarState}
 use Rattle.predicate_semantics.specs.Scalar as Scalar
 use Rattle.predicate_semantics.proofs.Sim.{Sim, stops, agrees, bind, bind-same, bind-lane, bind-value, bind-into, sim-require, sim-last, sim-found, sim-choose, sim-ended, bind-ended}
-use Rattle.predicate_semantics.proofs.Values.{at-unary, at-binary, at-unknown, sim-agreed, Regs, regs-at, regs-assign, regs-fill, at-start, OneLane, In, Mem, at-constant, at-domain, at-read, mem-write, mem-initial}
+use Rattle.predicate_semantics.proofs.Related.{Pairs, SameEffect, same-goes, same-sets, same-stores, SameAttempt, same-attempt, pairs-at, pairs-assign, pairs-fill, related-start}
+use Rattle.predicate_semantics.proofs.Values.{at-unary, at-binary, at-unknown, sim-agreed, OneLane, In, Mem, at-constant, at-domain, at-read, mem-write, mem-initial}
 
 -- the scalar state with a lane state's progress
 abbrev pub view : LaneState → List ℕ → Bytes → ScalarState
@@ -49,20 +50,12 @@ sim-startTests size symbols choice rows = bind-same (sim-require 1 _) (λ _. bin
 module _ {p : Program} {l : Setup} (x : OneLane p l) where
   -- registers and memory of a scalar run, as the lane has those of a lane state
   pub record Beside (s : LaneState) (rs : List ℕ) (m : Bytes) : Type 0 where
-    pub regs : Regs (length (l .inputs)) (x .number) (s .registers) rs
+    pub regs : Pairs (In x) (s .registers) rs
     pub mem : Mem x (s .memory) m
 
   -- a scalar state that goes with a lane state
   pub data Related : LaneState → ScalarState → Type 0 where
     related : {s : LaneState} {rs : List ℕ} {m : Bytes} → Beside s rs m → Related s (view s rs m)
-
-  pub data Same : Effect LaneWord → Effect ℕ → Type 0 where
-    same-goes : (next : ℕ) → Same (goes next) (goes next)
-    same-sets : (rd : ℕ) {w : LaneWord} {v : ℕ} (next : ℕ) → In x w v → Same (sets rd w next) (sets rd v next)
-    same-stores : (a b : ℕ) {w : LaneWord} {v : ℕ} (next : ℕ) → In x w v → Same (stores a b w next) (stores a b v next)
-
-  pub data Seen : Attempted LaneWord → Attempted ℕ → Type 0 where
-    seen : (f : Fetched) {e : Effect LaneWord} {d : Effect ℕ} → Same e d → Seen (record { fetched = f; effect = e }) (record { fetched = f; effect = d })
 
   module _ {ws : List Written} {m : Bytes} (mem : Mem x ws m) where
     abbrev bytes : LaneBytes
@@ -103,9 +96,9 @@ module _ {p : Program} {l : Setup} (x : OneLane p l) where
 
     pub at-reg : (i : ℕ) → In x (reg p l s i) (Scalar.reg (view s rs m) i)
     unfolding reg Scalar.reg laneCount
-    at-reg i = regs-at (h .regs) i
+    at-reg i = pairs-at (In x) (at-unknown _ (x .number) 0) (h .regs) i
 
-    sim-execute : (next : ℕ) (a : Action) → Sim (Same) (Lane.execute p l s next a) (Scalar.execute p (view s rs m) next a)
+    sim-execute : (next : ℕ) (a : Action) → Sim (SameEffect (In x)) (Lane.execute p l s next a) (Scalar.execute p (view s rs m) next a)
     unfolding Lane.execute Scalar.execute Lane.memoryOf laneCount
     sim-execute next Nothing = agrees (same-goes next)
     sim-execute next (Literal rd v) = agrees (same-sets rd next (at-constant x v))
@@ -124,22 +117,22 @@ module _ {p : Program} {l : Setup} (x : OneLane p l) where
         bind-value _ (sim-agreed 4 (at-unary (λ v. add v offset) (at-reg a)))
         (bind-same (sim-roomFor _ _ _ n _) (λ _. agrees (same-stores _ n next (at-reg b))))
 
-    sim-attempt : Sim (Seen) (Lane.attempt p l s) (Scalar.attempt p (view s rs m))
+    sim-attempt : Sim (SameAttempt (In x)) (Lane.attempt p l s) (Scalar.attempt p (view s rs m))
     unfolding Lane.attempt Scalar.attempt
     sim-attempt =
         bind-same sim-fetch (λ fetched.
-        bind (sim-execute _ _) (λ e d g. agrees (seen fetched g)))
+        bind (sim-execute _ _) (λ e d g. agrees (same-attempt fetched g)))
 
-    apply-related : (c : ℕ) (f : Fetched) {e : Effect LaneWord} {d : Effect ℕ} → Same e d
+    apply-related : (c : ℕ) (f : Fetched) {e : Effect LaneWord} {d : Effect ℕ} → SameEffect (In x) e d
         → Related (apply Memory.write c s f e) (apply Scalar.write c (view s rs m) f d)
     unfolding apply advanced
     apply-related c f (same-goes n) = related (record { regs = h .regs; mem = h .mem })
-    apply-related c f (same-sets rd n g) = related (record { regs = regs-assign (h .regs) rd g; mem = h .mem })
+    apply-related c f (same-sets rd n g) = related (record { regs = pairs-assign (In x) (h .regs) rd g; mem = h .mem })
     apply-related c f (same-stores a z n g) = related (record { regs = h .regs; mem = mem-write x z (h .mem) a g })
 
-    seen-related : (c : ℕ) {a : Attempted LaneWord} {b : Attempted ℕ} → Seen a b
+    seen-related : (c : ℕ) {a : Attempted LaneWord} {b : Attempted ℕ} → SameAttempt (In x) a b
         → Related (apply Memory.write c s (a .fetched) (a .effect)) (apply Scalar.write c (view s rs m) (b .fetched) (b .effect))
-    seen-related c (seen f g) = apply-related c f g
+    seen-related c (same-attempt f g) = apply-related c f g
 
     sim-step : Sim (Related) (Lane.step p l s) (Scalar.step p (view s rs m))
     unfolding Lane.step Scalar.step
@@ -186,7 +179,7 @@ module _ {p : Program} {l : Setup} (x : OneLane p l) where
   unfolding Lane.start Scalar.start Lane.begin laneCount
   sim-start others =
       bind-same (sim-startTests _ _ _ _) (λ _. agrees (related (record {
-        regs = regs-fill _ 0 _ _ (at-start (at-constant x 0) (at-constant x stop) (at-constant x stackPointer) (at-domain x) (λ j. at-unknown _ (x .number) _));
+        regs = pairs-fill (In x) _ 0 _ _ (related-start (In x) (at-constant x 0) (at-constant x stop) (at-constant x stackPointer) (at-domain x) (λ j. at-unknown _ (x .number) _));
         mem = mem-write x 4 (mem-initial x) stop (at-constant x stopWord);
       })))
 

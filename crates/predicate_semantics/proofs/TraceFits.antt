@@ -5,6 +5,7 @@ use Prim.Native.Nat.{ℕ, _<_}
 use native.Mathlib.Omega.{arith}
 use Rattle.little_endian.specs.Pack.{AllFit}
 use Rattle.riscv32imc.specs.Constants.{maxSteps}
+use Rattle.lane_word.specs.declared.InputRange.{InputRange}
 use Rattle.predicate_trace.specs.declared.PredicateControlStep.{PredicateControlStep}
 use Rattle.predicate_semantics.specs.declared.Rv32SymbolLayout.{Rv32SymbolLayout}
 use Rattle.predicate_semantics.specs.RecordRules.{Chain, Words, Completed}
@@ -21,13 +22,13 @@ fits-chain from to (s ∷ ss) h w =
     ((w .0, (w .1, (b, (w .2, tt)))), fits-chain (s .«next_program_counter») to ss (h .2) (w .3))
 
 -- so do those of a run's trace, accepted or refused
-module _ (image : List ℕ) (symbols : Rv32SymbolLayout) (rows entries : ℕ) where
-  pub standing-completed : Completed (standing image symbols) (setup rows entries) maxSteps ((standingLaneRun image symbols rows entries) .state)
+module _ (image : List ℕ) (symbols : Rv32SymbolLayout) (range : InputRange) (rows entries : ℕ) where
+  pub standing-completed : Completed (standing image symbols) (setup range rows entries) maxSteps ((standingLaneRun image symbols range rows entries) .state)
   unfolding standingLaneRun
-  standing-completed = completed (standing image symbols) (setup rows entries) maxSteps
+  standing-completed = completed (standing image symbols) (setup range rows entries) maxSteps
 
-  pub standing-trace-fits : AllFit stepWidths (map stepValues ((standingLaneRun image symbols rows entries) .state .trace))
+  pub standing-trace-fits : AllFit stepWidths (map stepValues ((standingLaneRun image symbols range rows entries) .state .trace))
   unfolding standing
   standing-trace-fits =
-      fits-chain _ _ ((standingLaneRun image symbols rows entries) .state .trace)
+      fits-chain _ _ ((standingLaneRun image symbols range rows entries) .state .trace)
       (standing-completed .chain) (standing-completed .words standing-expands-to-words)

@@ -5,7 +5,7 @@ use mathlib.Core.Option.{some}
 use mathlib.Core.List.{List, [], _∷_}
 use Prim.Native.Nat.{ℕ, zero, suc, _/_, _%_}
 use lib.Dec.{T, eqb}
-use lib.ListN.{getElem?, getD, length, set, length-map, length-replicate}
+use lib.ListN.{getElem?, getD, length, length-map, length-replicate}
 use borrow.Author.Tests.{eqb-true, eqb-false}
 use Rattle.rv32_arithmetic.specs.Bits.{join}
 use Rattle.lane_word.specs.declared.LaneWord.{LaneWord}
@@ -14,7 +14,6 @@ use Rattle.lane_word.specs.Word.{unknown, constant, domain, unary, binary, ever
 use Rattle.lane_word.proofs.Tab.{length-zip}
 use Rattle.predicate_semantics.specs.Choice.{choose}
 use Rattle.predicate_semantics.specs.Program.{Program, initial}
-use Rattle.predicate_semantics.specs.State.{assign, fill, atStart}
 use Rattle.predicate_semantics.specs.Memory.{Written, byteAt, laneBytes}
 use Rattle.predicate_semantics.specs.Memory as Memory
 use Rattle.predicate_semantics.specs.Tested.{refuse}
@@ -23,6 +22,7 @@ use Rattle.predicate_semantics.specs.Scalar.{Bytes}
 use Rattle.predicate_semantics.specs.Scalar as Scalar
 use Rattle.predicate_semantics.proofs.Lists.{map-at, zip-at, replicate-at, both-left, both-right, every-at}
 use Rattle.predicate_semantics.proofs.Sim.{Sim, stops, agrees}
+use Rattle.predicate_semantics.proofs.Related.{related-choose}
 
 -- w has n lanes, and its lane k is v, if it is known
 pub record At (n k : ℕ) (w : LaneWord) (v : ℕ) : Type 0 where
@@ -48,12 +48,6 @@ pub at-unknown : (n k v : ℕ) → At n k (unknown n) v
 unfolding unknown
 at-unknown n k v = record { size = length-replicate n 0; value = λ t. absurd t }
 
-pub at-choose : {n k : ℕ} (b : Bool) (f g : Unit {0} → LaneWord) (u v : Unit {0} → ℕ)
-    → At n k (f tt) (u tt) → At n k (g tt) (v tt) → At n k (choose b f g) (choose b u v)
-unfolding choose
-at-choose true f g u v x y = x
-at-choose false f g u v x y = y
-
 -- a word that passes the test has lane k's value
 pub sim-agreed : {n k : ℕ} (role : ℕ) {w : LaneWord} {v : ℕ} → At n k w v → Sim _≡_ (agreed role w) (some v)
 unfolding agreed uniformOf refuse
@@ -65,43 +59,6 @@ sim-agreed {k = k} role {w} {v} h =
     go true true x y = agrees (y tt (x tt))
     go true false x y = stops
     go false c x y = stops
-
--- registers, as lane k has them
-pub data Regs (n k : ℕ) : List LaneWord → List ℕ → Type 0 where
-  empty : Regs n k [] []
-  more : {w : LaneWord} {v : ℕ} {ws : List LaneWord} {vs : List ℕ} → At n k w v → Regs n k ws vs → Regs n k (w ∷ ws) (v ∷ vs)
-
-pub regs-at : {n k : ℕ} {ws : List LaneWord} {vs : List ℕ} → Regs n k ws vs → (i : ℕ) → At n k (getD ws i (unknown n)) (getD vs i 0)
-regs-at {n} {k} empty i = at-unknown n k 0
-regs-at (more h r) zero = h
-regs-at (more h r) (suc i) = regs-at r i
-
-regs-set : {n k : ℕ} {ws : List LaneWord} {vs : List ℕ} → Regs n k ws vs → (i : ℕ) {w : LaneWord} {v : ℕ} → At n k w v
-    → Regs n k (set ws i w) (set vs i v)
-regs-set empty i x = empty
-regs-set (more h r) zero x = more x r
-regs-set (more h r) (suc i) x = more h (regs-set r i x)
-
-pub regs-assign : {n k : ℕ} {ws : List LaneWord} {vs : List ℕ} → Regs n k ws vs → (i : ℕ) {w : LaneWord} {v : ℕ} → At n k w v
-    → Regs n k (assign ws i w) (assign vs i v)
-unfolding assign
-regs-assign r zero x = r
-regs-assign r (suc i) x = regs-set r (suc i) x
-
-pub regs-fill : {n k : ℕ} (c i : ℕ) (f : ℕ → LaneWord) (g : ℕ → ℕ) → ((j : ℕ) → At n k (f j) (g j)) → Regs n k (fill c i f) (fill c i g)
-unfolding fill
-regs-fill zero i f g h = empty
-regs-fill (suc c) i f g h = more (h i) (regs-fill c (suc i) f g h)
-
-pub at-start : {n k : ℕ} {a b c d : LaneWord} {o : ℕ → LaneWord} {t u v w : ℕ} {q : ℕ → ℕ}
-    → At n k a t → At n k b u → At n k c v → At n k d w → ((j : ℕ) → At n k (o j) (q j))
-    → (i : ℕ) → At n k (atStart a b c d o i) (atStart t u v w q i)
-unfolding atStart
-at-start ha hb hc hd ho i =
-    at-choose (eqb i 0) _ _ _ _ ha
-    (at-choose (eqb i 1) _ _ _ _ hb
-    (at-choose (eqb i 2) _ _ _ _ hc
-    (at-choose (eqb i 10) _ _ _ _ hd (ho i))))
 
 -- the byte at an address after a byte has been put
 pub byteAt-put : (other : LaneWord) (x a : ℕ) (b : LaneWord) (ws : List Written)
@@ -165,7 +122,7 @@ module _ {p : Program} {l : Setup} (x : OneLane p l) where
   mem-put {ws} {m} h a {b} {c} g = record {
     byte = λ y.
         subst (λ (w : LaneWord). In w (choose (eqb a y) (λ _. c) (λ _. m y))) (sym (byteAt-put _ y a b ws))
-        (at-choose (eqb a y) _ _ _ _ g (h .byte y));
+        (related-choose In (eqb a y) _ _ _ _ g (h .byte y));
   }
 
   pub mem-write : (n : ℕ) {ws : List Written} {m : Bytes} → Mem ws m → (a : ℕ) {w : LaneWord} {v : ℕ} → In w v

@@ -5,6 +5,7 @@ use mathlib.Core.Option.{none, some}
 use mathlib.Core.List.{List, [], _∷_}
 use Prim.Native.Nat.{ℕ, _≤_, _<_}
 use Rattle.riscv32imc.specs.Constants.{imageBase}
+use Rattle.lane_word.specs.Range.{invalidChannels}
 use Rattle.predicate_semantics.specs.Program.{Program, stop}
 use Rattle.predicate_semantics.specs.State.{Result}
 use Rattle.predicate_semantics.specs.Tested.{refuse}
@@ -17,7 +18,7 @@ use Rattle.predicate_semantics.specs.Cases.{refuses, holds}
 abbrev pub RefusedAtBound : List ℕ → Type 0
 RefusedAtBound image =
     (rows entries : ℕ) → 4 ≤ rows → 1000000 ≤ entries
-    → holds (record { image = image; entry = imageBase; rows = rows; entries = entries; outcome = refuses 3 0 1000000 }) ≡ true
+    → holds (record { image = image; entry = imageBase; range = invalidChannels; rows = rows; entries = entries; outcome = refuses 3 0 1000000 }) ≡ true
 
 -- so are the images that jump to themselves: JAL x0, 0, and C.J 0
 abbrev pub StepBound : Type 0

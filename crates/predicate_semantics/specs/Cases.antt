@@ -1,4 +1,4 @@
--- Threads on both sides of an edge: the cases marked *, the slips named there, and the edges of lent space, as one table.
+-- Threads on both sides of an edge: the cases marked *, the slips named there, the edges of lent space and of the range, as one table.
 use mathlib.Core.Path.{_≡_}
 use mathlib.Core.Bool.{Bool, true, false, _&&_}
 use mathlib.Core.Option.{some, Option·map}
@@ -6,6 +6,8 @@ use mathlib.Core.List.{List, [], _∷_, _++_}
 use Prim.Native.Nat.{ℕ, _/_, _%_}
 use lib.Dec.{eqb}
 use Rattle.riscv32imc.specs.Constants.{imageBase}
+use Rattle.lane_word.specs.declared.InputRange.{InputRange}
+use Rattle.lane_word.specs.Range.{invalidChannels}
 use Rattle.predicate_trace.specs.declared.PredicateControlStep.{PredicateControlStep}
 use Rattle.predicate_answer.specs.declared.PredicateTransducerExecution.{PredicateTransducerExecution}
 use Rattle.predicate_semantics.specs.declared.Rv32SymbolLayout.{Rv32SymbolLayout}
@@ -22,10 +24,11 @@ pub data Outcome : Type 0 where
   -- number, role, completed steps
   refuses : ℕ → ℕ → ℕ → Outcome
 
--- an image, its entry, what is lent, and what the run then gives
+-- an image, its entry, the range of inputs, what is lent, and what the run then gives
 pub record Case : Type 0 where
   pub image : List ℕ
   pub entry : ℕ
+  pub range : InputRange
   pub rows : ℕ
   pub entries : ℕ
   pub outcome : Outcome
@@ -45,7 +48,7 @@ meets (refuses number role steps) completed (refused r) =
 -- the run of a case gives its outcome
 unfoldable pub holds : Case → Bool
 holds c =
-    let e : Ended = standingLaneRun (c .image) (symbols (c .entry)) (c .rows) (c .entries) in
+    let e : Ended = standingLaneRun (c .image) (symbols (c .entry)) (c .range) (c .rows) (c .entries) in
     meets (c .outcome) (e .state .steps) (e .answer)
 
 -- every case of a table does
@@ -55,7 +58,16 @@ allHold (c ∷ cs) = holds c && allHold cs
 
 -- with what the program `lane-run` lends, from the image's first byte
 unfoldable pub plain : List ℕ → Outcome → Case
-plain image outcome = record { image = image; entry = imageBase; rows = 200; entries = 2048; outcome = outcome }
+plain image outcome = record { image = image; entry = imageBase; range = invalidChannels; rows = 200; entries = 2048; outcome = outcome }
+
+-- a case over another range
+unfoldable pub ranging : ℕ → ℕ → Case → Case
+ranging first last c =
+    record { image = c .image; entry = c .entry; range = record { first = first; last = last }; rows = c .rows; entries = c .entries; outcome = c .outcome }
+
+-- C.JR x1 from stop, with so many rows and no trace entry lent
+unfoldable pub atStop : ℕ → Outcome → Case
+atStop rows outcome = record { image = 0x82 ∷ 0x80 ∷ []; entry = stop; range = invalidChannels; rows = rows; entries = 0; outcome = outcome }
 
 -- the bytes of a word, and of a halfword
 unfoldable pub word : ℕ → List ℕ
@@ -72,9 +84,9 @@ return1 = half 0x4505 ++ half 0x8082
 unfoldable pub cases : List Case
 cases =
     -- * Entry = stop: 7, role 6, 0 steps
-    record { image = 0x82 ∷ 0x80 ∷ []; entry = stop; rows = 200; entries = 2048; outcome = refuses 7 6 0 }
+    record { image = 0x82 ∷ 0x80 ∷ []; entry = stop; range = invalidChannels; rows = 200; entries = 2048; outcome = refuses 7 6 0 }
     -- so too with no trace lent
-    ∷ record { image = 0x82 ∷ 0x80 ∷ []; entry = stop; rows = 200; entries = 0; outcome = refuses 7 6 0 }
+    ∷ atStop 200 (refuses 7 6 0)
     -- * Image 82 80: 7, role 6, 1 step
     ∷ plain (0x82 ∷ 0x80 ∷ []) (refuses 7 6 1)
     -- * 2E 85 82 80 (x10 from x11): 6, role 6; the slip of calling unknown zeros equal accepts it
@@ -96,15 +108,15 @@ cases =
     -- * one lower: 11
     ∷ plain (word 0x800005B7 ++ word 0x000585A3 ++ return1) (refuses 11 0 1)
     -- * Four rows and a store only to stop: passes (SW x0, 12(x2))
-    ∷ record { image = word 0x00012623 ++ return1; entry = imageBase; rows = 4; entries = 2048; outcome = accepts 1 3 }
+    ∷ record { image = word 0x00012623 ++ return1; entry = imageBase; range = invalidChannels; rows = 4; entries = 2048; outcome = accepts 1 3 }
     -- a row short for a store elsewhere (SW x0, 8(x2)): 13; under four rows: 13 before any step, also at stop
-    ∷ record { image = word 0x00012423 ++ return1; entry = imageBase; rows = 7; entries = 2048; outcome = refuses 13 0 0 }
-    ∷ record { image = return1; entry = stop; rows = 3; entries = 2048; outcome = refuses 13 0 0 }
+    ∷ record { image = word 0x00012423 ++ return1; entry = imageBase; range = invalidChannels; rows = 7; entries = 2048; outcome = refuses 13 0 0 }
+    ∷ record { image = return1; entry = stop; range = invalidChannels; rows = 3; entries = 2048; outcome = refuses 13 0 0 }
     -- .. and below the image's end, 11 comes first (LUI x11, 80000; SB x0, 11(x11))
-    ∷ record { image = word 0x800005B7 ++ word 0x000585A3 ++ return1; entry = imageBase; rows = 4; entries = 2048; outcome = refuses 11 0 1 }
+    ∷ record { image = word 0x800005B7 ++ word 0x000585A3 ++ return1; entry = imageBase; range = invalidChannels; rows = 4; entries = 2048; outcome = refuses 11 0 1 }
     -- a trace entry short: 14; a word without a row comes before it: 9 (EBREAK)
-    ∷ record { image = return1; entry = imageBase; rows = 200; entries = 1; outcome = refuses 14 0 1 }
-    ∷ record { image = word 0x00100073; entry = imageBase; rows = 200; entries = 0; outcome = refuses 9 0 0 }
+    ∷ record { image = return1; entry = imageBase; range = invalidChannels; rows = 200; entries = 1; outcome = refuses 14 0 1 }
+    ∷ record { image = word 0x00100073; entry = imageBase; range = invalidChannels; rows = 200; entries = 0; outcome = refuses 9 0 0 }
     -- a branch that is taken (BEQ x0, x0, 6, past a C.JR of x0, which is refused), and one that is not (BNE x0, x0, 6)
     ∷ plain (word 0x00000363 ++ half 0x8002 ++ return1) (accepts 1 3)
     ∷ plain (word 0x00001363 ++ return1) (accepts 1 3)
@@ -113,6 +125,23 @@ cases =
     -- slipped: counting SB at the event address (LUI x11, 80001; C.LI x12, 1; SB x12, 0(x11)); SW is counted
     ∷ plain (word 0x800015B7 ++ half 0x4605 ++ word 0x00C58023 ++ return1) (refuses 12 0 5)
     ∷ plain (word 0x800015B7 ++ half 0x4605 ++ word 0x00C5A023 ++ return1) (accepts 1 5)
+    -- one lane agrees with itself: 7 to 7 at stop is accepted with no step and no trace; 7 to 8 there are two
+    ∷ ranging 7 7 (atStop 200 (accepts 7 0))
+    ∷ ranging 7 8 (atStop 200 (refuses 7 6 0))
+    -- the first input above the last: 17, before 13 and after 2 and 1
+    ∷ ranging 5 4 (atStop 200 (refuses 17 0 0))
+    ∷ ranging 5 4 (atStop 3 (refuses 17 0 0))
+    ∷ ranging 5 4 (record { image = return1; entry = 0x7FFFFFFF; range = invalidChannels; rows = 3; entries = 0; outcome = refuses 2 0 0 })
+    ∷ ranging 5 4 (plain [] (refuses 1 0 0))
+    -- SLTIU 12: from 12 on it gives 0, from 11 on both, up to 11 it gives 1
+    ∷ ranging 12 255 (plain (word 0x00C53513 ++ half 0x8082) (accepts 0 2))
+    ∷ ranging 11 255 (plain (word 0x00C53513 ++ half 0x8082) (refuses 7 6 2))
+    ∷ ranging 0 11 (plain (word 0x00C53513 ++ half 0x8082) (accepts 1 2))
+    -- all 256 bytes, and the first and the last alone, of which C.JR x1 returns the input
+    ∷ ranging 0 255 (plain return1 (accepts 1 2))
+    ∷ ranging 0 255 (plain (half 0x8082) (refuses 7 6 1))
+    ∷ ranging 0 0 (plain (half 0x8082) (accepts 0 1))
+    ∷ ranging 255 255 (plain (half 0x8082) (accepts 255 1))
     ∷ []
 
 -- the image that the lanes refuse as unknown: each scalar run of it answers 0
@@ -134,7 +163,7 @@ controlStep pc word bytes next = record {
 
 -- Record: the example of the program, 05 45 82 80; its trace holds the words after expansion
 unfoldable pub example : Ended
-example = standingLaneRun return1 (symbols imageBase) 200 2048
+example = standingLaneRun return1 (symbols imageBase) invalidChannels 200 2048
 
 -- .. its result
 unfoldable pub exampleResult : Result
@@ -173,7 +202,7 @@ oneEvent =
     ++ return1
 
 unfoldable pub oneEventRun : Ended
-oneEventRun = standingLaneRun oneEvent (symbols imageBase) 200 2048
+oneEventRun = standingLaneRun oneEvent (symbols imageBase) invalidChannels 200 2048
 
 -- .. its result
 unfoldable pub oneEventResult : Result
@@ -206,4 +235,22 @@ oneEventExecution = record {
   «lane_value_operations» = 2750;
   «sparse_memory_bytes» = 20;
   «event_count» = 1;
+}
+
+-- 7 to 7 at stop: its numbers
+unfoldable pub oneInput : Ended
+oneInput = standingLaneRun return1 (symbols stop) (record { first = 7; last = 7 }) 4 0
+
+unfoldable pub oneInputResult : Result
+oneInputResult = record { returnValue = 7; steps = 0; trace = []; events = [] }
+
+unfoldable pub oneInputExecution : PredicateTransducerExecution
+oneInputExecution = record {
+  «first_input» = 7;
+  «lane_count» = 1;
+  «return_value» = 7;
+  «symbolic_transitions» = 0;
+  «lane_value_operations» = 0;
+  «sparse_memory_bytes» = 4;
+  «event_count» = 0;
 }

@@ -4,11 +4,14 @@ use mathlib.Core.Bool.{Bool, _&&_, _||_, cond}
 use mathlib.Core.Option.{some}
 use mathlib.Core.Logic.{_⊎_}
 use mathlib.Core.List.{List, [], _∷_}
-use Prim.Native.Nat.{ℕ, _≤_, _<_, _^_}
+use Prim.Native.Nat.{ℕ, _*_, _≤_, _<_, _^_}
 use lib.Dec.{leb, eqb}
 use lib.ListN.{length}
 use Rattle.riscv32imc.specs.Constants.{maxMemoryBytes}
+use Rattle.lane_word.specs.declared.InputRange.{InputRange}
+use Rattle.lane_word.specs.Range.{inputCount}
 use Rattle.predicate_trace.specs.declared.PredicateControlStep.{PredicateControlStep}
+use Rattle.predicate_answer.specs.declared.PredicateTransducerExecution.{PredicateTransducerExecution}
 use Rattle.predicate_semantics.specs.declared.Rv32SymbolLayout.{Rv32SymbolLayout}
 use Rattle.predicate_semantics.specs.Program.{Core, Program, stop}
 use Rattle.predicate_answer.specs.Blank.{maxEvents}
@@ -56,11 +59,23 @@ pub record Accepted (l : Setup) (s : LaneState) (r : Result) : Type 0 where
   pub written-most : length (s .memory) < maxMemoryBytes
   pub lent : length (s .memory) ≤ l .rows
 
--- no record of no steps: where entry is stop, inputs that differ refuse the run
+-- an accepted run's numbers, by its range, completed steps and written bytes
+abbrev pub numbersOver : InputRange → ℕ → ℕ → Result → PredicateTransducerExecution
+numbersOver range steps written r = record {
+  «first_input» = range .first;
+  «lane_count» = inputCount range;
+  «return_value» = r .returnValue;
+  «symbolic_transitions» = r .steps;
+  «lane_value_operations» = inputCount range * steps;
+  «sparse_memory_bytes» = written;
+  «event_count» = length (r .events);
+}
+
+-- a run is accepted with no step only over one input: where entry is stop, inputs that differ refuse the run
 abbrev pub TakesStep : Type 0
 TakesStep =
-    (image : List ℕ) (symbols : Rv32SymbolLayout) (rows entries : ℕ) (r : Result)
-    → (standingLaneRun image symbols rows entries) .answer ≡ passed r → 1 ≤ r .steps
+    (image : List ℕ) (symbols : Rv32SymbolLayout) (range : InputRange) (rows entries : ℕ) (r : Result)
+    → (standingLaneRun image symbols range rows entries) .answer ≡ passed r → (1 ≤ r .steps) ⊎ (inputCount range ≡ 1)
 
 -- the refusals that a record can hold: a role goes with 6 and 7 alone
 unfoldable pub proper : Refusal → Bool

@@ -24,10 +24,19 @@ use predicate_answer::REFUSAL_TEXTS;
 use predicate_answer::ROLE_TEXTS;
 ghost use Prim.Native.Nat.{_≤_};
 
+fn put_inputs(line: &mut Line, at: usize, first: u8, count: u16) -> usize {
+    if count == 1 {
+        return put_small(line, at, b"input ", first);
+    }
+    let place = put_number(line, at, b"", count as u32);
+    let place = put_small(line, place, b" inputs from ", first);
+    put(line, place, b" on")
+}
+
 fn put_heading_text(line: &mut Line, at: usize, s: &[u8]) -> usize {
-    let place = put_number(line, at, b" accepted for ", get_u16(s, 2) as u32);
-    let place = put_small(line, place, b" inputs from ", get_u8(s, 1));
-    let place = put_number(line, place, b" on: return value ", get_u32(s, 4));
+    let place = put(line, at, b" accepted for ");
+    let place = put_inputs(line, place, get_u8(s, 1), get_u16(s, 2));
+    let place = put_number(line, place, b": return value ", get_u32(s, 4));
     let place = put_number(line, place, b", steps ", get_u32(s, 8));
     let place = put_number(line, place, b", lane operations ", get_u32(s, 12));
     let place = put_number(line, place, b", written bytes ", get_u32(s, 16));

@@ -9,9 +9,12 @@ use lib.Dec.{eqb, ltb}
 use lib.ListN.{length, getD, set, take, replicate, length-set, length-replicate}
 use lib.Seq.{getD-set-same, getD-set-other, set-out}
 use Rattle.lane_word.specs.declared.LaneWord.{LaneWord}
+use Rattle.lane_word.specs.declared.InputRange.{InputRange}
 use Rattle.lane_word.specs.declared.Told.{Told}
 use Rattle.lane_word.specs.declared.Told.the-variants.{Value, Lanes}
-use Rattle.lane_word.specs.Word.{constant, unknown, lanes}
+use Rattle.lane_word.specs.Word.{constant, unknown, domain, inputs, lanes}
+use Rattle.lane_word.specs.Range.{inputCount}
+use Rattle.lane_word.specs.Spare.{laneInputs}
 use Rattle.lane_word.specs.Told.{wordOf}
 use Rattle.lane_word.proofs.ToldLaws.{constant-size}
 use Rattle.predicate_semantics.specs.Choice.{choose}
@@ -213,14 +216,19 @@ pub unknown-size : (n : ℕ) → length (unknown n .values) ≡ n
 unfolding unknown
 unknown-size n = length-replicate n 0
 
--- x0, x1 and x2 are told by their values
-abbrev pub startTags : List Tag
-startTags = set (set (set (replicate places byLanes) 0 (byValue 0)) 1 (byValue stop)) 2 (byValue stackPointer)
+-- one input is in every lane
+pub one-input : (range : InputRange) → range .first ≡ range .last → constant lanes (range .first) ≡ domain (laneInputs range)
+unfolding constant domain laneInputs inputs
+one-input range e = let one : inputCount range ≡ 1 = omega (arith, e) in rw one refl
 
-pub start-held : (x10 : LaneWord) → length (x10 .values) ≡ lanes → (n : ℕ) → n ≤ registerCount
-    → Held n startTags (set (replicate places (unknown lanes)) 10 x10) (startRegisters n x10)
+-- x0, x1 and x2 are told by their values, x10 as it can be
+abbrev pub startTags : Told → List Tag
+startTags u = set (set (set (set (replicate places byLanes) 0 (byValue 0)) 1 (byValue stop)) 2 (byValue stackPointer)) 10 (record { told = u })
+
+pub start-held : (x10 : LaneWord) → length (x10 .values) ≡ lanes → (u : Told) → wordOf u x10 ≡ x10 → (n : ℕ) → n ≤ registerCount
+    → Held n (startTags u) (set (replicate places (unknown lanes)) 10 x10) (startRegisters n x10)
 unfolding heldWords fill atStart choose
-start-held x10 s n h = record {
+start-held x10 s u e n h = record {
   tags-size = refl;
   words-size = refl;
   sized =
@@ -229,6 +237,6 @@ start-held x10 s n h = record {
   most = h;
   size = length-fill n 0 _;
   same =
-      held-fewer n registerCount startTags (set (replicate places (unknown lanes)) 10 x10) h
-      ∙ sym (fill-fewer n registerCount 0 _ h);
+      held-fewer n registerCount (startTags u) (set (replicate places (unknown lanes)) 10 x10) h
+      ∙ ap (take n) (rw e refl) ∙ sym (fill-fewer n registerCount 0 _ h);
 }

@@ -1,9 +1,9 @@
--- The run before its first step and after its last: tests 1, 2 and 13, and what the outcome is. Assumes nothing.
+-- The run before its first step and after its last: tests 1, 2, 17 and 13, and what the outcome is. Assumes nothing.
 use mathlib.Core.Path.{_≡_, refl, sym, ap, _∙_, subst}
 use mathlib.Core.Bool.{Bool, true, false, not, _&&_}
 use mathlib.Core.List.{List, []}
-use Prim.Native.Nat.{ℕ, zero, suc, _+_, _-_, _*_, _%_, _^_, _≤_}
-use native.Mathlib.Nat.{mod-eq-of-lt}
+use Prim.Native.Nat.{ℕ, zero, suc, _+_, _-_, _*_, _%_, _^_, _≤_, _<_}
+use native.Mathlib.Nat.{mod-eq-of-lt, mul-le-mul-right}
 use native.Mathlib.Omega.{arith}
 use lib.Dec.{leb, ltb}
 use lib.ListN.{length}
@@ -11,8 +11,10 @@ use borrow.Author.Tests.{lt-ltb, ltb-true}
 use Rattle.little_endian.specs.Lent.{over}
 use Rattle.rv32_arithmetic.specs.Arithmetic.{mul}
 use Rattle.riscv32imc.specs.Constants.{imageBase}
-use Rattle.lane_word.specs.declared.LaneWord.{LaneWord}
-use Rattle.lane_word.specs.Word.{constant, lanes}
+use Rattle.lane_word.specs.declared.InputRange.{InputRange}
+use Rattle.lane_word.specs.Word.{constant, domain, lanes}
+use Rattle.lane_word.specs.Range.{inputCount}
+use Rattle.lane_word.specs.Spare.{laneInputs}
 use Rattle.predicate_answer.specs.declared.CompiledMmioEvent.{CompiledMmioEvent}
 use Rattle.predicate_answer.specs.declared.PredicateTransducerExecution.{PredicateTransducerExecution}
 use Rattle.predicate_answer.specs.declared.Rv32Error.{Rv32Error}
@@ -22,7 +24,9 @@ use Rattle.predicate_semantics.specs.declared.Rv32SymbolLayout.{Rv32SymbolLayou
 use Rattle.predicate_semantics.specs.Program.{stop, stopWord, eventStride, memoryEnd, imageEnd, sized, symbolsPlaced, inMemory}
 use Rattle.predicate_semantics.specs.State.{Result}
 use Rattle.predicate_semantics.specs.Tested.{Tested, passed, refused, _>>=_, refuse, require}
-use Rattle.predicate_semantics.specs.Lane.{LaneState, Ended, laneCount, on, run, begin, startTests, start, laneRun, laneOperations, writtenBytes, execution, finish}
+use Rattle.predicate_semantics.specs.Lane.{LaneState, Ended, laneCount, on, begin, startTests, start, laneRun, finish}
+use Rattle.predicate_semantics.specs.Standing.{rangeTest}
+use Rattle.predicate_semantics.specs.RecordRules.{numbersOver}
 use Rattle.predicate_semantics.specs.Kept.{Kept}
 use Rattle.predicate_semantics.proofs.Always.{no-pass}
 use Rattle.predicate_semantics.proofs.Laws.{run-stop}
@@ -45,7 +49,7 @@ use Rattle.riscv32imc_predicate.specs.Setting.{Setting, Environment, env
 use Rattle.riscv32imc_predicate.specs.Coming.{Ends}
 use Rattle.riscv32imc_predicate.specs.Register.{Held, StartsWith}
 use Rattle.riscv32imc_predicate.specs.Tracking.{machine, Stands, Arrives, startPlace, startRecorded}
-use Rattle.riscv32imc_predicate.specs.Reporting.{refusedRun, Reports, Counts, InputsFrom, whole, never, wholeRun, Calls, Runs}
+use Rattle.riscv32imc_predicate.specs.Reporting.{refusedRun, Reports, Counts, whole, never, wholeRun, Calls, Runs}
 use Rattle.riscv32imc_predicate.proofs.LaneCount.{lane-count}
 
 pub off : (b : Bool) → not b ≡ true → b ≡ false
@@ -66,37 +70,37 @@ abbrev resultAt : LaneState → ℕ → List CompiledMmioEvent → Result
 resultAt s value found = record { returnValue = value; steps = s .steps; trace = s .trace; events = found }
 
 -- the numbers of an accepted run, as the code has them
-abbrev numbersOf : ℕ → Place → Recorded → ℕ → PredicateTransducerExecution
-numbersOf first place noted value = record {
-  «first_input» = first;
-  «lane_count» = lanes;
+abbrev numbersOf : InputRange → Place → Recorded → ℕ → PredicateTransducerExecution
+numbersOf range place noted value = record {
+  «first_input» = range .first;
+  «lane_count» = inputCount range;
   «return_value» = value;
   «symbolic_transitions» = place .steps;
-  «lane_value_operations» = mul lanes (place .steps);
+  «lane_value_operations» = mul (inputCount range) (place .steps);
   «sparse_memory_bytes» = place .written;
   «event_count» = noted .count % 256;
 }
 
-module _ (c : Setting) (s : LaneState) where
+module _ (range : InputRange) (s : LaneState) where
   pub reports-refused : (t : Tested Result) (x : Rv32Error) (k : ℕ) → k ≡ s .steps → t ≡ refused (refusalOf x)
-      → {r : PredicateRun} → r ≡ refusedRun x k → Reports c s t r
+      → {r : PredicateRun} → r ≡ refusedRun x k → Reports range s t r
   reports-refused t x k e q h = rw (q, h) (record { says = refl; completed = e; numbers = refl; found = refl })
 
-  module _ {first : ℕ} {place : Place} {noted : Recorded} (b : InputsFrom c first) (at : Counts place noted s) where
+  module _ {place : Place} {noted : Recorded} (byte : range .last < lanes) (at : Counts place noted s) where
     numbers-are : (value : ℕ) (found : List CompiledMmioEvent) → length found ≡ length (s .locations) → length found ≤ maxEvents
-        → numbersOf first place noted value ≡ execution (c .program) (c .setup) s (resultAt s value found)
-    unfolding execution laneOperations writtenBytes
+        → numbersOf range place noted value ≡ numbersOver range (s .steps) (length (s .memory)) (resultAt s value found)
     numbers-are value found f few =
-        let o : mul lanes (place .steps) ≡ lanes * s .steps
-        = mod-eq-of-lt (omega (arith, at .same-steps, at .countable)) ∙ ap (λ (x : ℕ). lanes * x) (at .same-steps) in
+        let few-lanes : inputCount range * s .steps ≤ lanes * s .steps = mul-le-mul-right (s .steps) (omega (arith, byte)) in
+        let o : mul (inputCount range) (place .steps) ≡ inputCount range * s .steps
+        = ap (mul (inputCount range)) (at .same-steps) ∙ mod-eq-of-lt (omega (arith, few-lanes, at .countable)) in
         let n : noted .count % 256 ≡ length found = mod-eq-of-lt (omega (arith, at .same-count, f, few)) ∙ at .same-count ∙ sym f in
-        rw (lane-count c (b .same-lanes), b .same-first, o, n, at .same-written, at .same-steps) refl
+        rw (o, n, at .same-written, at .same-steps) refl
 
-    pub reports-accepted : (value : ℕ) (found events : List CompiledMmioEvent) → events ≡ over found noEvents
+    pub reports-accepted : (c : Setting) (value : ℕ) (found events : List CompiledMmioEvent) → events ≡ over found noEvents
         → finish (c .program) (c .setup) s ≡ passed (resultAt s value found)
-        → Reports c s (finish (c .program) (c .setup) s)
-        (record { answer = answer.Accepted; steps = place .steps; execution = numbersOf first place noted value; events = events })
-    reports-accepted value found events z q =
+        → Reports range s (finish (c .program) (c .setup) s)
+        (record { answer = answer.Accepted; steps = place .steps; execution = numbersOf range place noted value; events = events })
+    reports-accepted c value found events z q =
         let f = events-located (c .program) (c .setup) s (resultAt s value found) q in
         rw q (record {
           says = (resultAt s value found, refl);
@@ -112,41 +116,41 @@ and-right true b q = q
 and-right false true q = refl
 and-right false false q = q
 
-placed-true : (size : ℕ) (symbols : Rv32SymbolLayout) (n : ℕ) → startTests size symbols (passed tt) n ≡ passed tt → symbolsPlaced symbols ≡ true
+placed-true : (size : ℕ) (symbols : Rv32SymbolLayout) (choice : Tested (Unit {0})) (n : ℕ) → startTests size symbols choice n ≡ passed tt → symbolsPlaced symbols ≡ true
 unfolding startTests _>>=_ require refuse
-placed-true size symbols n = go (sized size) (symbolsPlaced symbols) (leb 4 n)
+placed-true size symbols choice n = go (sized size) (symbolsPlaced symbols)
   where
-    go : (a b c : Bool) → (require 1 a >>= λ _. require 2 b >>= λ _. require 13 c) ≡ passed tt → b ≡ true
-    go true true c q = refl
-    go true false c q = absurd (no-pass q)
-    go false b c q = absurd (no-pass q)
+    go : (a b : Bool) → (require 1 a >>= λ _. require 2 b >>= λ _. choice >>= λ _. require 13 (leb 4 n)) ≡ passed tt → b ≡ true
+    go true true q = refl
+    go true false q = absurd (no-pass q)
+    go false b q = absurd (no-pass q)
 
 -- every event lies below 2^32
-pub events-low : (size : ℕ) (symbols : Rv32SymbolLayout) (n : ℕ) → startTests size symbols (passed tt) n ≡ passed tt → symbols .events + maxEvents * eventStride ≤ 2 ^ 32
+pub events-low : (size : ℕ) (symbols : Rv32SymbolLayout) (choice : Tested (Unit {0})) (n : ℕ) → startTests size symbols choice n ≡ passed tt → symbols .events + maxEvents * eventStride ≤ 2 ^ 32
 unfolding symbolsPlaced inMemory
-events-low size symbols n h =
+events-low size symbols choice n h =
     let e : ℕ = symbols .events in
-    let m = and-right (inMemory (symbols .entry) && inMemory (symbols .«event_count»)) (leb imageBase e && ltb e memoryEnd) (placed-true size symbols n h) in
+    let m = and-right (inMemory (symbols .entry) && inMemory (symbols .«event_count»)) (leb imageBase e && ltb e memoryEnd) (placed-true size symbols choice n h) in
     omega (arith, ltb-true e memoryEnd (and-right (leb imageBase e) (ltb e memoryEnd) m))
 
-module _ {c : Setting} {image : List ℕ} {symbols : Rv32SymbolLayout} {first : ℕ} {x10 : LaneWord} {limit : ℕ} {rows trace : List ℕ}
-    (k : Calls c image symbols first x10 limit rows trace) where
+module _ {c : Setting} {image : List ℕ} {symbols : Rv32SymbolLayout} {range : InputRange} {limit : ℕ} {rows trace : List ℕ}
+    (k : Calls c image symbols range limit rows trace) where
   -- what the loop is given
   abbrev pub loopEnvironment : Environment
   loopEnvironment = environment image symbols (wholeRun limit trace)
 
   -- the tests before any step are the setting's
-  same-tests : (t : Tested (Unit {0})) → startTests (length image) symbols (passed tt) (rowCount rows) ≡ t
+  same-tests : (t : Tested (Unit {0})) → startTests (length image) symbols (rangeTest range) (rowCount rows) ≡ t
       → startTests (length (c .program .image)) (c .program .symbols) (c .setup .choice) (c .setup .rows) ≡ t
   same-tests t e = rw (k .serves .same-image, k .serves .same-symbols, k .same-choice, k .same-rows) e
 
   -- refused before any step
-  pub run-refused-first : (q : Refusal) → startTests (length image) symbols (passed tt) (rowCount rows) ≡ refused q
+  pub run-refused-first : (q : Refusal) → startTests (length image) symbols (rangeTest range) (rowCount rows) ≡ refused q
       → whole c ≡ record { state = firstState c; answer = refused q }
   unfolding laneRun on start _>>=_
   run-refused-first q h = rw (same-tests (refused q) h)
 
-  module _ (h : startTests (length image) symbols (passed tt) (rowCount rows) ≡ passed tt) where
+  module _ (h : startTests (length image) symbols (rangeTest range) (rowCount rows) ≡ passed tt) where
     started : start (c .program) (c .setup) ≡ passed (firstState c)
     unfolding start _>>=_
     started = rw (same-tests (passed tt) h)
@@ -159,14 +163,14 @@ module _ {c : Setting} {image : List ℕ} {symbols : Rv32SymbolLayout} {first : 
     kept-first = kept-start (c .program) (c .setup) _ started .0
 
     -- the registers of the start
-    begin-held : {r : Registers} → StartsWith x10 r → Held (registersOf c) (r .tags) (r .words) (firstState c .registers)
+    begin-held : {r : Registers} → StartsWith (domain (laneInputs range)) r → Held (registersOf c) (r .tags) (r .words) (firstState c .registers)
     unfolding begin
     begin-held {r} w =
-        rw (lane-count c (k .serves .same-lanes), k .same-domain) (w (registersOf c) (k .serves .most-registers))
+        rw (lane-count c (k .serves .same-lanes), k .same-inputs) (w (registersOf c) (k .serves .most-registers))
 
     -- the stop word is stored
     pub begin-stands : Holds rows (rowCount rows) [] → {rows′ : List ℕ} → rows′ ≡ storeValues rows 4 stop stopWord → {place : Place} → place ≡ startPlace (symbols .entry)
-        → {r : Registers} → StartsWith x10 r → {noted : Recorded} → noted ≡ startRecorded → Stands c loopEnvironment (machine place r noted rows′ trace) (firstState c)
+        → {r : Registers} → StartsWith (domain (laneInputs range)) r → {noted : Recorded} → noted ≡ startRecorded → Stands c loopEnvironment (machine place r noted rows′ trace) (firstState c)
     unfolding begin putEntries
     begin-stands j {rows′} e {place} p {r} w {noted} n =
         let b : Holds rows (c .setup .rows) [] = rw (k .same-rows) j in
@@ -219,5 +223,5 @@ module _ {c : Setting} {image : List ℕ} {symbols : Rv32SymbolLayout} {first : 
       }
 
   pub runs-as : {e : Ended} → whole c ≡ e → {r : PredicateRun} {rows′ trace′ : List ℕ}
-      → Reports c (e .state) (e .answer) r → trace′ ≡ putEntries (c .lent) 0 (e .state .trace) → cleared rows′ ≡ cleared rows → Runs c r rows rows′ trace′
+      → Reports range (e .state) (e .answer) r → trace′ ≡ putEntries (c .lent) 0 (e .state .trace) → cleared rows′ ≡ cleared rows → Runs c range r rows rows′ trace′
   runs-as same t b z = record { reports = rw same t; entries = rw same b; same-rows = z }

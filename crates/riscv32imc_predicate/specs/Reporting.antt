@@ -2,9 +2,10 @@
 use mathlib.Core.List.{List}
 use mathlib.Core.Path.{_≡_}
 use Prim.Native.Nat.{ℕ, _*_, _^_, _<_}
-use lib.ListN.{length, getD}
-use Rattle.lane_word.specs.declared.LaneWord.{LaneWord}
-use Rattle.lane_word.specs.Word.{domain, lanes}
+use lib.ListN.{length}
+use Rattle.lane_word.specs.declared.InputRange.{InputRange}
+use Rattle.lane_word.specs.Word.{lanes}
+use Rattle.lane_word.specs.Spare.{laneInputs}
 use Rattle.predicate_answer.specs.declared.PredicateTransducerExecution.{PredicateTransducerExecution}
 use Rattle.predicate_answer.specs.declared.Rv32Error.{Rv32Error}
 use Rattle.predicate_answer.specs.Refusal.{refusalOf}
@@ -12,7 +13,9 @@ use Rattle.predicate_answer.specs.Blank.{noExecution, noEvents}
 use Rattle.predicate_semantics.specs.declared.Rv32SymbolLayout.{Rv32SymbolLayout}
 use Rattle.predicate_semantics.specs.State.{Result}
 use Rattle.predicate_semantics.specs.Tested.{Tested, passed, refused}
-use Rattle.predicate_semantics.specs.Lane.{LaneState, Ended, finish, laneRun, execution}
+use Rattle.predicate_semantics.specs.Lane.{LaneState, Ended, finish, laneRun}
+use Rattle.predicate_semantics.specs.Standing.{rangeTest}
+use Rattle.predicate_semantics.specs.RecordRules.{numbersOver}
 use Rattle.predicate_trace.specs.Trace.{entryCount, putEntries}
 use Rattle.lane_memory.specs.Rows.{rowCount, cleared}
 use Rattle.riscv32imc_predicate.specs.declared.Bounds.{Bounds}
@@ -36,15 +39,15 @@ Says answer.Accepted t = (result : Result) × (t ≡ passed result)
 Says (answer.Refused x) t = t ≡ refused (refusalOf x)
 
 -- the numbers beside an answer, none after a refusal
-abbrev pub executionOf : Setting → LaneState → Tested Result → PredicateTransducerExecution
-executionOf c s (passed r) = execution (c .program) (c .setup) s r
-executionOf c s (refused q) = noExecution
+abbrev pub executionOf : InputRange → LaneState → Tested Result → PredicateTransducerExecution
+executionOf range s (passed r) = numbersOver range (s .steps) (length (s .memory)) r
+executionOf range s (refused q) = noExecution
 
--- what the code answers of a run that ended in a state with an answer
-pub record Reports (c : Setting) (s : LaneState) (t : Tested Result) (r : PredicateRun) : Type 0 where
+-- what the code answers of a range's run that ended in a state with an answer
+pub record Reports (range : InputRange) (s : LaneState) (t : Tested Result) (r : PredicateRun) : Type 0 where
   pub says : Says (r .answer) t
   pub completed : r .steps ≡ s .steps
-  pub numbers : r .execution ≡ executionOf c s t
+  pub numbers : r .execution ≡ executionOf range s t
   pub found : r .events ≡ eventsIn t
 
 -- a place and a count of events are of a state, and so many operations fit a word
@@ -54,17 +57,12 @@ pub record Counts (place : Place) (noted : Recorded) (s : LaneState) : Type 0 wh
   pub same-written : place .written ≡ length (s .memory)
   pub same-count : noted .count ≡ length (s .locations)
 
--- a setting's inputs: which is first, and that there is a lane for each
-pub record InputsFrom (c : Setting) (first : ℕ) : Type 0 where
-  pub same-first : getD (c .setup .inputs) 0 0 ≡ first
-  pub same-lanes : length (c .setup .inputs) ≡ lanes
-
 -- the answer at stop, reported for every state there
-abbrev pub Answered : ℕ → Place → Recorded → Finished → PredicateRun → Type 0
-Answered first place noted finished r =
-    (c : Setting) (s : LaneState) → InputsFrom c first → Counts place noted s
+abbrev pub Answered : InputRange → Place → Recorded → Finished → PredicateRun → Type 0
+Answered range place noted finished r =
+    (c : Setting) (s : LaneState) → Counts place noted s
     → Answers (finished .verdict) (finished .«return_value») (finished .events) s (finish (c .program) (c .setup) s)
-    → Reports c s (finish (c .program) (c .setup) s) r
+    → Reports range s (finish (c .program) (c .setup) s) r
 
 -- more steps than any run has
 abbrev pub never : ℕ
@@ -79,17 +77,16 @@ abbrev pub whole : Setting → Ended
 whole c = laneRun (c .program) (c .setup) (c .limit)
 
 -- what the run is called with is a setting's
-pub record Calls (c : Setting) (image : List ℕ) (symbols : Rv32SymbolLayout) (first : ℕ) (x10 : LaneWord) (limit : ℕ) (rows trace : List ℕ) : Type 0 where
+pub record Calls (c : Setting) (image : List ℕ) (symbols : Rv32SymbolLayout) (range : InputRange) (limit : ℕ) (rows trace : List ℕ) : Type 0 where
   pub serves : Serves c (environment image symbols (wholeRun limit trace))
-  pub inputs : InputsFrom c first
-  pub same-domain : domain (c .setup .inputs) ≡ x10
-  pub same-choice : c .setup .choice ≡ passed tt
+  pub same-inputs : c .setup .inputs ≡ laneInputs range
+  pub same-choice : c .setup .choice ≡ rangeTest range
   pub same-rows : c .setup .rows ≡ rowCount rows
   pub same-lent : c .lent ≡ trace
   pub countable : lanes * limit < 2 ^ 32
 
 -- the run over rows that hold nothing yet
-pub record Runs (c : Setting) (r : PredicateRun) (rows rows′ trace′ : List ℕ) : Type 0 where
-  pub reports : Reports c (whole c .state) (whole c .answer) r
+pub record Runs (c : Setting) (range : InputRange) (r : PredicateRun) (rows rows′ trace′ : List ℕ) : Type 0 where
+  pub reports : Reports range (whole c .state) (whole c .answer) r
   pub entries : trace′ ≡ putEntries (c .lent) 0 (whole c .state .trace)
   pub same-rows : cleared rows′ ≡ cleared rows

@@ -8,11 +8,14 @@ use super::Recorded;
 use super::finish::Finished;
 use super::finish::finish;
 use super::run::advance;
+use super::start::range_test;
 use super::start::start_place;
 use super::start::start_recorded;
 use super::start::start_registers;
 use super::start::start_test;
+use super::start::told_input;
 use lane_access::Verdict;
+use lane_word::InputRange;
 use lane_word::LaneWord;
 use predicate_answer::PredicateTransducerExecution;
 use predicate_answer::Rv32Error;
@@ -24,14 +27,10 @@ use predicate_semantics::STOP_WORD;
 use predicate_trace::ENTRY_BYTES;
 ghost use mathlib.Core.Path.{_≡_};
 ghost use mathlib.Core.List.{[]};
-ghost use Rattle.predicate_answer.specs.Blank.{noExecution};
 ghost use Rattle.lane_memory.specs.Rows.{rowCount};
 ghost use Rattle.lane_memory.specs.Holds.{Holds};
 ghost use Rattle.riscv32imc_predicate.specs.Setting.{Setting};
 ghost use Rattle.riscv32imc_predicate.specs.Reporting.{refusedRun, wholeRun, Answered, Calls, Runs};
-
-// The lanes, as a factor of lane operations.
-const LANE_COUNT: u32 = LaneWord::LANES as u32;
 
 // More steps than any run has, so that none pauses.
 const NEVER: u32 = 0xFFFF_FFFF;
@@ -47,22 +46,23 @@ fn refused(error: Rv32Error, steps: u32) -> PredicateRun
     }
 }
 
-fn answered(first_input: u8, place: Place, recorded: Recorded, finished: Finished) -> PredicateRun
-    ensures { λ r. ⌜ Answered «first_input» place recorded finished r ⌝ }
+fn answered(range: InputRange, place: Place, recorded: Recorded, finished: Finished) -> PredicateRun
+    ensures { λ r. ⌜ Answered range place recorded finished r ⌝ }
 {
     let verdict = finished.verdict;
     let events = finished.events;
+    let lane_count = range.count();
     match verdict {
         Verdict::Refused(error) => refused(error, place.steps),
         Verdict::Passed => PredicateRun {
             answer: PredicateAnswer::Accepted,
             steps: place.steps,
             execution: PredicateTransducerExecution {
-                first_input,
-                lane_count: LaneWord::LANES as u16,
+                first_input: range.first,
+                lane_count,
                 return_value: finished.return_value,
                 symbolic_transitions: place.steps,
-                lane_value_operations: rv32_arithmetic::rv32_mul(LANE_COUNT, place.steps),
+                lane_value_operations: rv32_arithmetic::rv32_mul(lane_count as u32, place.steps),
                 sparse_memory_bytes: place.written,
                 event_count: (recorded.count % 256) as u8,
             },
@@ -82,33 +82,29 @@ fn whole_run(limit: u32, trace: &[u8]) -> Bounds
     }
 }
 
-// The run of inputs from `first_input` on, which `domain` has in its lanes, in at most `limit` steps.
+// The run of a range's inputs, in at most `limit` steps.
 pub fn run(
     image: &[u8],
     symbols: Rv32SymbolLayout,
-    first_input: u8,
-    domain: LaneWord,
+    range: InputRange,
     limit: u32,
     rows: &mut [u8],
     trace: &mut [u8],
 ) -> PredicateRun
     requires { ⌜ Holds (now rows) (rowCount (now rows)) [] ⌝ }
-    ensures { λ r. ⌜ ((c : Setting) → Calls c (now (image .entry)) symbols «first_input» domain limit (now (rows .entry)) (now (trace .entry)) → Runs c r (now (rows .entry)) (now (rows .exit)) (now (trace .exit))) ⌝ }
+    ensures { λ r. ⌜ ((c : Setting) → Calls c (now (image .entry)) symbols range limit (now (rows .entry)) (now (trace .entry)) → Runs c range r (now (rows .entry)) (now (rows .exit)) (now (trace .exit))) ⌝ }
 {
-    let started = start_test(
-        image.len(),
-        symbols,
-        Verdict::Passed,
-        lane_memory::row_count(rows),
-    );
+    let choice = range_test(range);
+    let started = start_test(image.len(), symbols, choice, lane_memory::row_count(rows));
     if let Verdict::Refused(error) = started {
         return refused(error, 0);
     }
     lane_memory::store_value(rows, STOP, 4, STOP_WORD);
     let bounds = whole_run(limit, trace);
+    let told = told_input(range);
     let reached = advance(
         start_place(symbols.entry),
-        start_registers(domain),
+        start_registers(LaneWord::input_domain(range), told),
         start_recorded(),
         image,
         symbols,
@@ -124,7 +120,7 @@ pub fn run(
         Ending::Arrived => {
             let recorded = reached.recorded;
             let finished = finish(recorded, reached.x10, image, symbols, rows);
-            answered(first_input, place, recorded, finished)
+            answered(range, place, recorded, finished)
         }
     }
 }

@@ -3,6 +3,7 @@
 ghost use mathlib.Core.Path.{_≡_};
 ghost use Prim.Native.Nat.{_+_, _*_, _%_, _^_, _≤_, _<_};
 ghost use lib.ListN.{length};
+ghost use Rattle.lane_word.specs.Word.{lanes};
 use lane_memory::Found;
 use lane_word::LaneWord;
 use lane_word::Told;
@@ -104,12 +105,12 @@ fn address(order: Order, k: u32) -> u32
 
 // A word whose lanes differ, known for every second seed.
 fn pattern(seed: u32) -> LaneWord
-    ensures { λ r. ⌜ length (r .values) ≡ 250 ⌝ }
+    ensures { λ r. ⌜ length (r .values) ≡ lanes ⌝ }
 {
-    let mut values = [0u32; 250];
+    let mut values = [0u32; LaneWord::LANES];
     let mut value = ((seed as u64) * 0x0103_0507 % 0x1_0000_0000) as u32;
     let mut lane: usize = 0;
-    while lane < 250 {
+    while lane < LaneWord::LANES {
         values[lane] = value;
         value = std::num::wrapping_add_u32(value, 0x2b11_0d05);
         lane += 1;
@@ -145,13 +146,13 @@ fn differs(a: u32, b: u32) -> u32
 
 // The lanes of a loaded byte against byte `place` of a word, and the known flags.
 fn lanes(loaded: LaneWord, word: LaneWord, place: u32) -> Tally
-    ensures { λ r. ⌜ (r .compared ≡ 251) × (r .differing ≤ 251) ⌝ }
+    ensures { λ r. ⌜ (r .compared ≡ lanes + 1) × (r .differing ≤ lanes + 1) ⌝ }
 {
     let got = loaded.values;
     let values = word.values;
     let mut differing = differs(loaded.known as u32, word.known as u32);
     let mut lane: u64 = 0;
-    while lane < 250 {
+    while lane < LaneWord::LANES as u64 {
         differing += differs(got[lane as usize], byte(values[lane as usize], place));
         lane += 1;
     }
@@ -181,7 +182,7 @@ fn fill(rows: &mut [u8], order: Order, count: u32, seed: u32, place: u32, new: u
 
 // What is loaded from each of the addresses against what was stored.
 fn read_back(rows: &[u8], order: Order, count: u32, seed: u32, place: u32) -> Tally
-    ensures { λ r. ⌜ (r .compared ≡ 251 * count) × (r .differing ≤ 251 * count) ⌝ }
+    ensures { λ r. ⌜ (r .compared ≡ (lanes + 1) * count) × (r .differing ≤ (lanes + 1) * count) ⌝ }
 {
     let mut compared: u64 = 0;
     let mut differing: u64 = 0;
@@ -233,10 +234,10 @@ fn is_full(found: Found) -> u32
 }
 
 fn not_written() -> LaneWord
-    ensures { λ r. ⌜ length (r .values) ≡ 250 ⌝ }
+    ensures { λ r. ⌜ length (r .values) ≡ lanes ⌝ }
 {
     LaneWord {
-        values: [wide(OTHER); 250],
+        values: [wide(OTHER); LaneWord::LANES],
         known: true,
     }
 }
@@ -308,7 +309,7 @@ fn orders(name: &[u8], rows: &mut [u8], count: u32) {
 
 // The bytes of a stored word against what is loaded.
 fn read_word(rows: &[u8], a: u32, width: u32, word: LaneWord) -> Tally
-    ensures { λ r. ⌜ (r .compared ≡ 251 * width) × (r .differing ≤ 251 * width) ⌝ }
+    ensures { λ r. ⌜ (r .compared ≡ (lanes + 1) * width) × (r .differing ≤ (lanes + 1) * width) ⌝ }
 {
     let mut compared: u64 = 0;
     let mut differing: u64 = 0;

@@ -1,5 +1,5 @@
-// Runs the record's reader and writer on document 01's record, on records that break one rule each, and on lent memory of
-// every length around the border, and prints what they answer: 0 for done, else document 01's number.
+// Runs the record's reader and writer on document 01's record, on records that break one rule each, on records of other ranges, and on
+// lent memory of every length around the border, and prints what they answer: 0 for done, else document 01's number.
 use lane_record::ReadAnswer;
 use lane_record::RecordAnswer;
 use lane_record::RecordOutcome;
@@ -9,11 +9,13 @@ use little_endian::get_u8;
 use little_endian::get_u16;
 use little_endian::get_u32;
 use little_endian::put_u8;
+use little_endian::put_u16;
 use little_endian::put_u32;
 use predicate_answer::CompiledMmioEvent;
 use predicate_answer::PredicateTransducerExecution;
 use test_support::end_line;
 use test_support::say;
+use test_support::unlike;
 ghost use Prim.Native.Nat.{_+_, _≤_};
 
 // Document 01's record, 49 bytes, and a byte more.
@@ -76,7 +78,7 @@ const REFUSED: [u8; 7] = [0x7F, 0x05, 0x00, 0x02, 0x00, 0x00, 0x00];
 // A number of a record changed: its place, whether it has four bytes and not one, and what it becomes.
 struct Edit(usize, bool, u32);
 
-// Of document 01's record; each of the first twelve breaks one rule, the others none.
+// Of document 01's record; each of the first twelve breaks a rule, the others none.
 const EDITS: [Edit; 18] = [
     // first input, lanes, lane operations
     Edit(1, false, 7),
@@ -105,11 +107,14 @@ const EDITS: [Edit; 18] = [
     Edit(22, true, 1),
 ];
 
-// Of the refused record; each of the first six breaks one rule, the others none. Four bytes at 1 are refusal, role and steps.
-const REFUSAL_EDITS: [Edit; 10] = [
-    // refusal 0 and 15
+// Of the refused record; each of the first nine breaks one rule, the others none. Four bytes at 1 are refusal, role and steps.
+const REFUSAL_EDITS: [Edit; 13] = [
+    // refusal 0, and those above 14, which no record holds
     Edit(1, false, 0),
     Edit(1, false, 15),
+    Edit(1, false, 16),
+    Edit(1, false, 17),
+    Edit(1, false, 255),
     // a role for 5, none for 6, and one above 10
     Edit(2, false, 1),
     Edit(1, false, 6),
@@ -123,7 +128,51 @@ const REFUSAL_EDITS: [Edit; 10] = [
     Edit(3, true, 1_000_000),
 ];
 
-// What a series of answers goes over: edits or first bytes of a record, or lengths of what is lent.
+// First input, lanes, steps and lane operations, in document 01's record; without steps it ends with its heading.
+struct Heading(u8, u16, u32, u32);
+
+// Each of the first 17 breaks a rule, the others none.
+const HEADINGS: [Heading; 28] = [
+    // no lane
+    Heading(6, 0, 2, 0),
+    Heading(0, 0, 2, 0),
+    Heading(7, 0, 0, 0),
+    // a last input above 255
+    Heading(255, 2, 2, 4),
+    Heading(6, 251, 2, 502),
+    Heading(0, 257, 2, 514),
+    Heading(1, 256, 2, 512),
+    Heading(0, 65535, 2, 131070),
+    // no steps, and more lanes than one
+    Heading(7, 2, 0, 0),
+    Heading(6, 250, 0, 0),
+    Heading(0, 256, 0, 0),
+    // lane operations that are not those of the lanes
+    Heading(12, 244, 2, 487),
+    Heading(12, 244, 2, 489),
+    Heading(12, 244, 2, 500),
+    Heading(0, 256, 2, 511),
+    Heading(7, 1, 2, 1),
+    Heading(7, 1, 0, 1),
+    // up to the last byte
+    Heading(0, 256, 2, 512),
+    Heading(255, 1, 2, 2),
+    Heading(12, 244, 2, 488),
+    // not up to it
+    Heading(6, 249, 2, 498),
+    Heading(5, 250, 2, 500),
+    Heading(4, 2, 2, 4),
+    Heading(7, 1, 2, 2),
+    Heading(0, 1, 2, 2),
+    // one lane that is at stop from the first
+    Heading(0, 1, 0, 0),
+    Heading(255, 1, 0, 0),
+    NO_STEPS,
+];
+
+const NO_STEPS: Heading = Heading(7, 1, 0, 0);
+
+// What a series of answers goes over: edits, first bytes or headings of a record, or lengths of what is lent.
 enum Series {
     EditRead,
     EditWritten,
@@ -131,12 +180,17 @@ enum Series {
     RefusalRead,
     RefusalWritten,
     RefusalShort,
+    HeadingRead,
+    HeadingWritten,
+    HeadingWithoutOutput,
     Kind,
     RefusalKind,
     Bytes,
     Trace,
     TraceWritten,
     Output,
+    NoStepsBytes,
+    NoStepsOutput,
 }
 
 fn tell(n: u64) {
@@ -207,6 +261,13 @@ fn change(bytes: &mut [u8], edit: Edit) {
     }
 }
 
+fn put_heading(bytes: &mut [u8], heading: Heading) {
+    put_u8(bytes, 1, heading.0);
+    put_u16(bytes, 2, heading.1);
+    put_u32(bytes, 8, heading.2);
+    put_u32(bytes, 12, heading.3);
+}
+
 fn answer_of(bytes: &[u8]) -> RecordAnswer {
     if get_u8(bytes, 0) == 0x7F {
         return RecordAnswer::Refused(RecordRefusal {
@@ -243,8 +304,16 @@ fn result_of(bytes: &[u8]) -> RecordOutcome {
     }
 }
 
-// Document 01's record after an edit, read; and as a result and the first m bytes of its trace, written to the first n bytes
-// of an output.
+// Bytes as a result and the first m bytes of its trace, written to the first n bytes of an output.
+fn write_bytes(bytes: &[u8], m: usize, n: usize) -> u64 {
+    let mut trace = [0u8; 26];
+    let mut output = [0u8; 80];
+    copy(&mut trace, 0, bytes, 22, 13);
+    copy(&mut trace, 13, bytes, 36, 13);
+    write(result_of(bytes), &trace, m, &mut output, n)
+}
+
+// Document 01's record after an edit, read and written.
 fn read_edited(edit: Edit) -> u64 {
     let mut bytes = EXAMPLE;
     let mut trace = [0u8; 26];
@@ -254,12 +323,8 @@ fn read_edited(edit: Edit) -> u64 {
 
 fn write_edited(edit: Edit, m: usize, n: usize) -> u64 {
     let mut bytes = EXAMPLE;
-    let mut trace = [0u8; 26];
-    let mut output = [0u8; 80];
     change(&mut bytes, edit);
-    copy(&mut trace, 0, &bytes, 22, 13);
-    copy(&mut trace, 13, &bytes, 36, 13);
-    write(result_of(&bytes), &trace, m, &mut output, n)
+    write_bytes(&bytes, m, n)
 }
 
 fn read_refusal(edit: Edit) -> u64 {
@@ -276,15 +341,42 @@ fn write_refusal(edit: Edit, n: usize) -> u64 {
     write(result_of(&bytes), b"", 0, &mut output, n)
 }
 
+// The first n bytes of document 01's record with another heading, read; and written to the first n bytes of an output. The trace that is
+// lent has the two entries of the record, or none.
+fn read_heading(heading: Heading, n: usize) -> u64 {
+    let mut bytes = EXAMPLE;
+    let mut trace = [0u8; 26];
+    put_heading(&mut bytes, heading);
+    read(&bytes, n, &mut trace, entries(heading))
+}
+
+fn write_heading(heading: Heading, n: usize) -> u64 {
+    let mut bytes = EXAMPLE;
+    put_heading(&mut bytes, heading);
+    write_bytes(&bytes, entries(heading), n)
+}
+
+fn entries(heading: Heading) -> usize {
+    if heading.2 == 0 { 0 } else { 26 }
+}
+
+fn record_bytes(heading: Heading) -> usize {
+    if heading.2 == 0 { 21 } else { 49 }
+}
+
+fn heading_at(k: usize) -> Heading {
+    if k < 28 { HEADINGS[k] } else { NO_STEPS }
+}
+
 fn edit_at(k: usize) -> Edit {
     if k < 18 { EDITS[k] } else { EDITS[17] }
 }
 
 fn refusal_edit_at(k: usize) -> Edit {
-    if k < 10 {
+    if k < 13 {
         REFUSAL_EDITS[k]
     } else {
-        REFUSAL_EDITS[9]
+        REFUSAL_EDITS[12]
     }
 }
 
@@ -305,13 +397,18 @@ fn answer(series: Series, k: usize) -> u64 {
         Series::RefusalRead => read_refusal(refusal_edit_at(k)),
         Series::RefusalWritten => write_refusal(refusal_edit_at(k), 7),
         Series::RefusalShort => write_refusal(refusal_edit_at(k), 6),
+        Series::HeadingRead => read_heading(heading_at(k), record_bytes(heading_at(k))),
+        Series::HeadingWritten => write_heading(heading_at(k), record_bytes(heading_at(k))),
+        Series::HeadingWithoutOutput => write_heading(heading_at(k), 0),
         Series::Kind => read_edited(first_byte(k)),
         Series::RefusalKind => read_refusal(first_byte(k)),
         Series::Bytes => read_lent(k, 39),
         Series::Trace => read_lent(49, k),
-        // the last two have document 01's record itself, since its first byte is 1
+        // these two have document 01's record itself, since its first byte is 1
         Series::TraceWritten => write_edited(first_byte(1), k, 80),
         Series::Output => write_edited(first_byte(1), 26, k),
+        Series::NoStepsBytes => read_heading(NO_STEPS, k),
+        Series::NoStepsOutput => write_heading(NO_STEPS, k),
     }
 }
 
@@ -338,18 +435,6 @@ fn taken(series: Series) -> u64 {
     taken
 }
 
-// No steps and so no lane operations, read and written.
-fn no_steps() {
-    let mut bytes = EXAMPLE;
-    let mut trace = [0u8; 26];
-    let mut output = [0u8; 60];
-    put_u32(&mut bytes, 8, 0);
-    put_u32(&mut bytes, 12, 0);
-    tell(read(&bytes, 21, &mut trace, 26));
-    tell(write(result_of(&bytes), &trace, 26, &mut output, 60));
-    end_line();
-}
-
 fn compare(written: WriteAnswer, output: &[u8], bytes: &[u8]) {
     if let WriteAnswer::Written(n) = written {
         tell(n as u64);
@@ -361,20 +446,21 @@ fn compare(written: WriteAnswer, output: &[u8], bytes: &[u8]) {
 }
 
 // Reads bytes and writes what was read, and prints the reader's answer, how many bytes were written, 1 if they are the same,
-// the byte after them, which was 85, and the third entry's first byte, which was 170.
+// the byte after them, which was 85, and how many bytes after the steps' entries are not 170 as before.
 fn round_trip(bytes: &[u8]) {
     let mut trace = [170u8; 39];
     let mut output = [85u8; 640];
     let reading = lane_record::read_record(bytes, &mut trace);
     let read = reading.answer;
     let outcome = reading.outcome;
+    let steps = outcome.execution.symbolic_transitions as usize;
     tell(read_number(read));
     compare(
         lane_record::write_record(outcome, &trace, &mut output),
         &output,
         bytes,
     );
-    tell_byte(trace[26]);
+    tell(unlike(&trace, steps * 13, 39, 170));
     end_line();
 }
 
@@ -407,6 +493,18 @@ fn with_events(n: u8) {
     round_trip_first(&bytes, steps + 28);
 }
 
+// Document 01's record with another heading.
+fn with_heading(heading: Heading) {
+    let mut bytes = EXAMPLE;
+    put_heading(&mut bytes, heading);
+    io::write_all(1, b"first input, lanes and steps:");
+    tell_byte(heading.0);
+    tell(heading.1 as u64);
+    tell(heading.2 as u64);
+    io::write_all(1, b":");
+    round_trip_first(&bytes, record_bytes(heading));
+}
+
 fn edits() {
     answers(b"edited, read:", Series::EditRead, 18);
     answers(b"edited, written:", Series::EditWritten, 18);
@@ -415,13 +513,27 @@ fn edits() {
         Series::EditWithoutOutput,
         18,
     );
-    answers(b"edited refusal, read:", Series::RefusalRead, 10);
-    answers(b"edited refusal, written:", Series::RefusalWritten, 10);
+    answers(b"edited refusal, read:", Series::RefusalRead, 13);
+    answers(b"edited refusal, written:", Series::RefusalWritten, 13);
     answers(
         b"edited refusal, written with an output a byte short:",
         Series::RefusalShort,
-        10,
+        13,
     );
+}
+
+fn headings() {
+    answers(b"other headings, read:", Series::HeadingRead, 28);
+    answers(b"other headings, written:", Series::HeadingWritten, 28);
+    answers(
+        b"other headings, written with no output:",
+        Series::HeadingWithoutOutput,
+        28,
+    );
+    with_heading(Heading(0, 256, 2, 512));
+    with_heading(Heading(12, 244, 2, 488));
+    with_heading(Heading(255, 1, 2, 2));
+    with_heading(NO_STEPS);
 }
 
 fn lengths() {
@@ -433,6 +545,16 @@ fn lengths() {
         27,
     );
     answers(b"output lent, from 0 on:", Series::Output, 61);
+    answers(
+        b"bytes read of a record without steps, from 0 on:",
+        Series::NoStepsBytes,
+        23,
+    );
+    answers(
+        b"output lent to a record without steps, from 0 on:",
+        Series::NoStepsOutput,
+        23,
+    );
 }
 
 fn first_bytes() {
@@ -446,10 +568,9 @@ fn main() {
     io::write_all(1, b"document 01:");
     round_trip_first(&EXAMPLE, 49);
     edits();
+    headings();
     lengths();
     first_bytes();
-    io::write_all(1, b"no steps, read and written:");
-    no_steps();
     io::write_all(1, b"events:");
     with_events(32);
     io::write_all(1, b"events:");

@@ -1,13 +1,15 @@
-// Runs the images on standard input, which oracle/predicate_cases makes, on both sides of each edge of document 01, and prints of each
-// run the refusal's number (0: accepted), its role and the completed steps, what an accepted run answers, the last completed step,
-// and how many lent bytes are not as they must be.
+// Runs the images on standard input, which oracle/predicate_cases makes, on both sides of each edge of document 01 and of document 02's
+// ranges, and prints of each run the refusal's number (0: accepted), its role and the completed steps, what an accepted run answers, the
+// last completed step, and how many lent bytes are not as they must be.
 //
 // 1,000,000 trace entries take 13 MB, which a stack of 8 MB cannot lend, and memory comes from nowhere else. So loops of 500,000 steps
 // stand in for the bound on steps: past them the entries end the run, not the bound. A second list on standard input has the edges of
 // the bound, and needs a stack of 32 MB.
+use lane_word::InputRange;
 use little_endian::get_u8;
 use little_endian::get_u32;
 use predicate_answer::CompiledMmioEvent;
+use predicate_answer::PredicateTransducerExecution;
 use predicate_semantics::Rv32SymbolLayout;
 use predicate_trace::ENTRY_BYTES;
 use riscv32imc_predicate::PredicateAnswer;
@@ -52,6 +54,15 @@ fn say_events(events: [CompiledMmioEvent; 32], count: u8) {
     }
 }
 
+fn say_execution(execution: PredicateTransducerExecution) {
+    say_word(b", returns ", execution.return_value);
+    say(b", written ", execution.sparse_memory_bytes as u64);
+    say(b", events ", execution.event_count as u64);
+    say(b", from input ", execution.first_input as u64);
+    say(b", lanes ", execution.lane_count as u64);
+    say(b", operations ", execution.lane_value_operations as u64);
+}
+
 // Number, role and steps; after an accepted run its answer.
 fn say_answer(run: PredicateRun) {
     let answer = run.answer;
@@ -63,9 +74,7 @@ fn say_answer(run: PredicateRun) {
         }
         PredicateAnswer::Accepted => {
             say(b": 0 0 ", run.steps as u64);
-            say_word(b", returns ", run.execution.return_value);
-            say(b", written ", run.execution.sparse_memory_bytes as u64);
-            say(b", events ", run.execution.event_count as u64);
+            say_execution(run.execution);
         }
     }
 }
@@ -90,10 +99,16 @@ fn unlike_after(rows: &[u8], trace: &[u8], steps: u32) -> u64 {
     std::num::wrapping_add_u64(in_rows, std::num::wrapping_add_u64(past_rows, in_trace))
 }
 
-fn run_lent(image: &[u8], symbols: Rv32SymbolLayout, rows: &mut [u8], trace: &mut [u8]) {
+fn run_lent(
+    image: &[u8],
+    symbols: Rv32SymbolLayout,
+    range: InputRange,
+    rows: &mut [u8],
+    trace: &mut [u8],
+) {
     fill(rows, BEFORE);
     fill(trace, BEFORE);
-    let run = riscv32imc_predicate::execute_invalid_channel_predicate(image, symbols, rows, trace);
+    let run = riscv32imc_predicate::execute_predicate(image, symbols, range, rows, trace);
     let events = run.events;
     say_answer(run);
     say_last(trace, run.steps);
@@ -113,10 +128,21 @@ fn next_symbols() -> Rv32SymbolLayout {
     }
 }
 
-// The next case: name, symbols, the sizes of image, rows and trace, and the bytes that the image begins with; the others are 0.
+fn next_input() -> u8 {
+    (next() % 256) as u8
+}
+
+fn next_range() -> InputRange {
+    let first = next_input();
+    let last = next_input();
+    InputRange { first, last }
+}
+
+// The next case: name, symbols, inputs, the sizes of image, rows and trace, and the bytes that the image begins with; the others are 0.
 fn next_case(image: &mut [u8], rows: &mut [u8], trace: &mut [u8]) {
     say_next();
     let symbols = next_symbols();
+    let range = next_range();
     let size = next_size(image.len());
     let rows_size = next_size(rows.len());
     let trace_size = next_size(trace.len());
@@ -125,6 +151,7 @@ fn next_case(image: &mut [u8], rows: &mut [u8], trace: &mut [u8]) {
     run_lent(
         &image[..size],
         symbols,
+        range,
         &mut rows[..rows_size],
         &mut trace[..trace_size],
     );

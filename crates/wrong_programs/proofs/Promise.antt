@@ -5,7 +5,7 @@ use mathlib.Core.List.{List, [], _∷_}
 use mathlib.Core.Option.{Option, none, some}
 use Prim.Native.Nat.{ℕ, _+_}
 use native.Mathlib.Omega.{arith}
-use Rattle.lane_word.specs.Word.{firstInput}
+use Rattle.lane_word.specs.Range.{invalidChannels}
 use Rattle.predicate_trace.specs.declared.PredicateControlStep.{PredicateControlStep}
 use Rattle.predicate_answer.specs.declared.PredicateTransducerExecution.{PredicateTransducerExecution}
 use Rattle.predicate_semantics.specs.State.{Result}
@@ -18,6 +18,9 @@ use Rattle.wrong_programs.specs.Inputs.{Input, imageOf, symbolsOf, retur
 use Rattle.wrong_programs.specs.Behaviours.{isAccepted, steps, Agree}
 use Rattle.wrong_programs.specs.Refuted.{RunOutput, recordOf, seenOfRun, RunPromises, PromiseRefuted}
 use Rattle.wrong_programs.proofs.Table.{runs, different}
+
+abbrev firstInput : ℕ
+firstInput = invalidChannels .first
 
 -- the scalar run of the first input
 abbrev scalarFirst : Input → Option Result

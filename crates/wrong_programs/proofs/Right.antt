@@ -7,6 +7,7 @@ use Prim.Native.Nat.{ℕ}
 use borrow.Author.Tests.{leb-true}
 use lib.Dec.{leb}
 use lib.ListN.{length}
+use Rattle.lane_word.specs.Range.{invalidChannels}
 use Rattle.predicate_semantics.specs.declared.Rv32SymbolLayout.{Rv32SymbolLayout}
 use Rattle.predicate_semantics.specs.State.{Result}
 use Rattle.predicate_semantics.specs.Tested.{Tested, passed}
@@ -27,10 +28,10 @@ use Rattle.wrong_programs.specs.Behaviours.{Observed, noSpaceAtOnce}
 use Rattle.wrong_programs.specs.Refuted.{Suffices, NeverAtOnce, RunOutput, recordOf, seenOfRun, RunMeets, LibraryOutput, written, seenOfLibrary, LibraryMeets}
 
 abbrev pub recordAt : Input → Record
-recordAt x = imageRecord (imageOf x) (symbolsOf x) (x .rows) (x .trace)
+recordAt x = imageRecord (imageOf x) (symbolsOf x) invalidChannels (x .rows) (x .trace)
 
 abbrev pub traceAt : Input → List ℕ
-traceAt x = imageTrace (imageOf x) (symbolsOf x) (x .rows) (x .trace)
+traceAt x = imageTrace (imageOf x) (symbolsOf x) invalidChannels (x .rows) (x .trace)
 
 pub record Right (x : Input) (o : Observed) : Type 0 where
   pub recorded : o .recorded ≡ some (recordAt x)
@@ -39,7 +40,7 @@ pub record Right (x : Input) (o : Observed) : Type 0 where
 -- ---- the run
 
 record-in : (image : List ℕ) (symbols : Rv32SymbolLayout) (n entries : ℕ) (s : LaneState) (t : Tested Result)
-    → recordOf (executionIn image symbols n entries s t) (s .steps) t ≡ recordIn image symbols n entries s t
+    → recordOf (executionIn image symbols invalidChannels n entries s t) (s .steps) t ≡ recordIn image symbols invalidChannels n entries s t
 record-in image symbols n entries s (passed r) = refl
 record-in image symbols n entries s (Tested.refused q) = refl
 
@@ -54,7 +55,7 @@ suffices-accepted : (x : Input) → Suffices x → noSpaceAtOnce (some (recordAt
 suffices-accepted x (r, e) =
     ap
     (λ (t : Tested Result).
-    noSpaceAtOnce (some (recordIn (imageOf x) (symbolsOf x) (rowCount (x .rows)) (entryCount (x .trace)) ((runAt x) .state) t)))
+    noSpaceAtOnce (some (recordIn (imageOf x) (symbolsOf x) invalidChannels (rowCount (x .rows)) (entryCount (x .trace)) ((runAt x) .state) t)))
     e
 
 pub run-never : NeverAtOnce RunOutput seenOfRun RunMeets

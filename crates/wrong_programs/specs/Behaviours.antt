@@ -8,7 +8,7 @@ use Prim.Native.Nat.{ℕ, _-_, _≤_}
 use lib.Dec.{eqb}
 use lib.ListN.{length, take, drop, replicate}
 use Rattle.riscv32imc.specs.Constants.{imageBase, maxSteps}
-use Rattle.lane_word.specs.Word.{firstInput, lanes}
+use Rattle.lane_word.specs.Range.{invalidChannels, inputCount}
 use Rattle.predicate_trace.specs.declared.PredicateControlStep.{PredicateControlStep}
 use Rattle.predicate_answer.specs.declared.PredicateTransducerExecution.{PredicateTransducerExecution}
 use Rattle.predicate_semantics.specs.State.{Result}
@@ -64,7 +64,7 @@ noSpaceAtOnce (some (refused f)) = (eqb (f .number) 13 || eqb (f .number) 14) &&
 abbrev pub copied : Input → Ended
 copied x =
     laneRun (standing (imageOf x) (symbolsOf x))
-    (record { inputs = replicate lanes firstInput; choice = passed tt; rows = rowCount (x .rows); entries = entryCount (x .trace) }) maxSteps
+    (record { inputs = replicate (inputCount invalidChannels) (invalidChannels .first); choice = passed tt; rows = rowCount (x .rows); entries = entryCount (x .trace) }) maxSteps
 
 -- the bytes at the entry, as many as an instruction can have
 abbrev pub firstInstruction : Input → List ℕ

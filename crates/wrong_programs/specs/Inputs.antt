@@ -4,6 +4,7 @@ use Prim.Native.Nat.{ℕ, _*_}
 use lib.ListN.{replicate}
 use Rattle.little_endian.specs.Number.{bytes}
 use Rattle.riscv32imc.specs.Constants.{imageBase}
+use Rattle.lane_word.specs.Range.{invalidChannels}
 use Rattle.predicate_semantics.specs.declared.Rv32SymbolLayout.{Rv32SymbolLayout}
 use Rattle.predicate_semantics.specs.Lane.{Ended}
 use Rattle.predicate_semantics.specs.Cases.{symbols, word, half, return1}
@@ -33,7 +34,7 @@ imageOf x = imageIn (x .bytes)
 
 -- the run by the definition
 abbrev pub runAt : Input → Ended
-runAt x = runOver (imageOf x) (symbolsOf x) (x .rows) (x .trace)
+runAt x = runOver (imageOf x) (symbolsOf x) invalidChannels (x .rows) (x .trace)
 
 -- an image at the example's symbols, with so many rows and entries and enough output lent, all zero
 abbrev pub lending : List ℕ → ℕ → ℕ → Input

@@ -5,12 +5,12 @@ use mathlib.Core.List.{List, [], _∷_}
 use mathlib.Core.Option.{Option, none, some}
 use Prim.Native.Nat.{ℕ, _≤_}
 use lib.ListN.{take}
-use Rattle.lane_word.specs.Word.{firstInput}
+use Rattle.lane_word.specs.Range.{invalidChannels}
 use Rattle.predicate_answer.specs.declared.PredicateTransducerExecution.{PredicateTransducerExecution}
 use Rattle.predicate_semantics.specs.State.{Result}
 use Rattle.predicate_semantics.specs.Tested.{Tested, passed}
 use Rattle.predicate_semantics.specs.Tested as Tested
-use Rattle.predicate_semantics.specs.Standing.{lastInput, standingScalarRun}
+use Rattle.predicate_semantics.specs.Standing.{standingScalarRun}
 use Rattle.lane_record.specs.declared.WriteAnswer.{WriteAnswer}
 use Rattle.lane_record.specs.Format.{Record, accepted, refused}
 use Rattle.lane_record.specs.Decode.{decodeRecord}
@@ -76,7 +76,7 @@ seenOfRun o = record {
 }
 
 abbrev pub RunMeets : Input → RunOutput → Type 0
-RunMeets x o = Ran (imageOf x) (symbolsOf x) (x .rows) (x .trace) (o .run) (o .rows) (o .trace)
+RunMeets x o = Ran (imageOf x) (symbolsOf x) invalidChannels (x .rows) (x .trace) (o .run) (o .rows) (o .trace)
 
 abbrev pub RunRefuted : Type 0
 RunRefuted = Refuted RunOutput seenOfRun RunMeets
@@ -86,7 +86,7 @@ RunRefuted = Refuted RunOutput seenOfRun RunMeets
 abbrev pub RunPromises : Input → RunOutput → Type 0
 RunPromises x o =
     (result : Result) → resultIn (o .run) (o .trace) ≡ passed result
-    → (input : ℕ) → firstInput ≤ input → input ≤ lastInput
+    → (input : ℕ) → invalidChannels .first ≤ input → input ≤ invalidChannels .last
     → (others : ℕ → ℕ) → standingScalarRun (imageOf x) (symbolsOf x) input others ≡ some result
 
 pub record PromiseRefuted : Type 0 where

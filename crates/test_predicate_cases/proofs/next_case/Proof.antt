@@ -16,6 +16,7 @@ next-case-spec =
     (λ c κs. search needs)
     (λ c κs. search needs)
     (λ c κs. search needs)
+    (λ c κs. search needs)
     (λ c. search needs)
     (λ c. sym (length-take-le _ _ (omega arith)))
     (λ c. search needs)

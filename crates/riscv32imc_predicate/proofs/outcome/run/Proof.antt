@@ -5,7 +5,9 @@ use lib.ListN.{length}
 use denote.Ref.{now}
 use borrow.Author.Needs.{needs}
 use Rattle.predicate_answer.specs.Refusal.{refusalOf}
-use Rattle.predicate_semantics.specs.Tested.{passed}
+use Rattle.predicate_semantics.specs.Tested.{Tested, passed}
+use Rattle.predicate_semantics.specs.Standing.{rangeTest}
+use Rattle.lane_word.specs.declared.LaneWord.{LaneWord}
 use Rattle.predicate_semantics.specs.Lane.{begin, startTests}
 use Rattle.predicate_semantics.specs.Program.{stop, stopWord}
 use Rattle.predicate_trace.specs.Trace.{putEntries}
@@ -15,6 +17,7 @@ use Rattle.lane_access.specs.Answers.{verdictOf}
 use Rattle.riscv32imc_predicate.specs.declared.Bounds.{Bounds}
 use Rattle.riscv32imc_predicate.specs.Setting.{Setting, environment, firstState}
 use Rattle.riscv32imc_predicate.specs.Tracking.{Machine, machine, Stands, Arrives}
+use Rattle.riscv32imc_predicate.specs.Register.{StartsWith}
 use Rattle.riscv32imc_predicate.specs.Reporting.{Calls}
 use Rattle.riscv32imc_predicate.proofs.Following.{sees}
 use Rattle.riscv32imc_predicate.proofs.Running.{run-refused-first, reports-refused, loopEnvironment, begin-stands, runs-as, ended-refused, ended-arrived, never-paused, counts, events-low}
@@ -24,7 +27,20 @@ use Rattle.riscv32imc_predicate.proofs.outcome.run.Tie as tie
 -- a setting that the call is one of
 abbrev CallsAt : tie.Start → Setting → Type 0
 CallsAt s x =
-    Calls x (now (s .args .image)) (s .args .symbols) (s .args .first-input) (s .args .domain) (s .args .limit) (now (s .args .rows)) (now (s .args .trace))
+    Calls x (now (s .args .image)) (s .args .symbols) (s .args .range) (s .args .limit) (now (s .args .rows)) (now (s .args .trace))
+
+abbrev begun : tie.After-start-test → tie.Start
+begun t = t .before .before .before .before .before .before .before
+
+-- the tests before any step are made of what the call is given
+first-tests : (t : tie.After-start-test)
+    → startTests (length (now (begun t .args .image))) (begun t .args .symbols) (rangeTest (begun t .args .range)) (rowCount (now (begun t .args .rows)))
+    ≡ verdictOf (t .start-test .result)
+first-tests t =
+    let a = begun t .args in
+    ap (startTests (length (now (a .image))) (a .symbols) (rangeTest (a .range))) (sym (t .before .row-count .ensures))
+    ∙ ap (λ (choice : Tested (Unit {0})). startTests (length (now (a .image))) (a .symbols) choice (t .before .row-count .result)) (sym (t .before .before .before .range-test .ensures))
+    ∙ sym (t .start-test .ensures)
 
 -- the tests before any step passed
 module _ (c : tie.After-enum-told) where
@@ -32,12 +48,10 @@ module _ (c : tie.After-enum-told) where
   tested = c .before .before
 
   abbrev start : tie.Start
-  start = tested .before .before .before .before .before .before
+  start = begun tested
 
-  passes : startTests (length (now (start .args .image))) (start .args .symbols) (passed tt) (rowCount (now (start .args .rows))) ≡ passed tt
-  passes =
-      ap (startTests (length (now (start .args .image))) (start .args .symbols) (passed tt)) (sym (tested .before .row-count .ensures))
-      ∙ sym (tested .start-test .ensures) ∙ ap verdictOf (c .enum-told .given .1)
+  passes : startTests (length (now (start .args .image))) (start .args .symbols) (rangeTest (start .args .range)) (rowCount (now (start .args .rows))) ≡ passed tt
+  passes = first-tests tested ∙ ap verdictOf (c .enum-told .given .1)
 
 -- the loop has ended
 module _ (k : tie.After-advance) where
@@ -45,10 +59,10 @@ module _ (k : tie.After-advance) where
   recorded = k .before .before .before
 
   abbrev placed : tie.After-start-place
-  placed = recorded .before .before
+  placed = recorded .before .before .before
 
   abbrev stored : tie.After-store-value
-  stored = placed .before .before .before .before .before
+  stored = placed .before .before .before .before .before .before
 
   abbrev told : tie.After-enum-told
   told = stored .before .before
@@ -66,11 +80,12 @@ module _ (k : tie.After-advance) where
   reaches : (x : Setting) (s : CallsAt (start told) x) → Arrives x (loopEnvironment s) (firstState x) (k .advance .result) rows′ (k .advance .last .1 .1 .1 .1 .1 .1 .0)
   reaches x s =
       let a = start told .args in
-      subst (λ (b : Bounds). Arrives x (environment (now (a .image)) (a .symbols) b) (firstState x) (k .advance .result) rows′ (k .advance .last .1 .1 .1 .1 .1 .1 .0)) (placed .before .whole-run .ensures)
+      subst (λ (b : Bounds). Arrives x (environment (now (a .image)) (a .symbols) b) (firstState x) (k .advance .result) rows′ (k .advance .last .1 .1 .1 .1 .1 .1 .0)) (placed .before .before .whole-run .ensures)
       (k .advance .ensures .0 x (firstState x)
-      (subst (λ (b : Bounds). Stands x (environment (now (a .image)) (a .symbols) b) first (firstState x)) (sym (placed .before .whole-run .ensures))
+      (subst (λ (b : Bounds). Stands x (environment (now (a .image)) (a .symbols) b) first (firstState x)) (sym (placed .before .before .whole-run .ensures))
       (begin-stands s (passes told) (start told .pre) (stored .store-value .ensures) (placed .start-place .ensures)
-      (recorded .before .start-registers .ensures) (recorded .start-recorded .ensures))))
+      (subst (λ (w : LaneWord). StartsWith w (recorded .before .start-registers .result)) (recorded .before .before .input-domain .ensures) (recorded .before .start-registers .ensures))
+      (recorded .start-recorded .ensures))))
 
 abbrev ended : tie.After-refused2 → tie.After-advance
 ended c = c .before .before .before .before .before .before .before .before .before
@@ -88,23 +103,24 @@ run-spec =
     (tie.spec
     (λ c κs. search needs)
     (λ c κs. search needs)
+    (λ c κs. search needs)
     (λ c. search needs)
     (λ c κs. search needs)
     (λ c. search needs)
     (λ c x k.
     let q = c .before .before in
     let t = q .before .before in
-    let a = t .before .before .before .before .before .before .args in
     let e = q .started .given .0 .0 in
     runs-as k
-    (run-refused-first k (refusalOf e)
-    (ap (startTests (length (now (a .image))) (a .symbols) (passed tt)) (sym (t .before .row-count .ensures)) ∙ sym (t .start-test .ensures) ∙ ap verdictOf (q .started .given .1)))
-    (reports-refused x (firstState x) _ e 0 refl refl (c .refused .ensures)) (sym (k .same-lent)) refl)
+    (run-refused-first k (refusalOf e) (first-tests t ∙ ap verdictOf (q .started .given .1)))
+    (reports-refused (begun t .args .range) (firstState x) _ e 0 refl refl (c .refused .ensures)) (sym (k .same-lent)) refl)
     (λ c. search needs)
     (λ c κs. search needs)
     (λ c κs. search needs)
     (λ c κs. search needs)
     (λ c κs. search needs)
+    (λ c κs. search needs)
+    (λ c κs. rw (c .input-domain .ensures) (c .before .before .told-input .ensures))
     (λ c κs. search needs)
     (λ c κs. search needs)
     (λ c. search needs)
@@ -115,7 +131,7 @@ run-spec =
     (λ c κs.
     let k = stopped c in
     let a = start (told k) .args in
-    events-low (length (now (a .image))) (a .symbols) (rowCount (now (a .rows))) (passes (told k)))
+    events-low (length (now (a .image))) (a .symbols) (rangeTest (a .range)) (rowCount (now (a .rows))) (passes (told k)))
     (λ c κs. search needs)
     (λ c. let k = ended c in k .advance .kept .1 .1 .1 .1 .1 .0 ∙ stored k .store-value .kept .0)
     (λ c. ended c .advance .kept .1 .1 .1 .1 .1 .1 .0)
@@ -124,7 +140,7 @@ run-spec =
     let q = c .before .before .ending .given in
     let a = reaches k x s in
     runs-as s (ended-refused s (passes (told k)) a (q .0 .0) (q .1))
-    (reports-refused x (a .state) _ (q .0 .0) _ (a .stands .tracks .same-steps) refl (c .refused2 .ensures)) (a .stands .tracks .traced) (same-rows k))
+    (reports-refused (start (told k) .args .range) (a .state) _ (q .0 .0) _ (a .stands .tracks .same-steps) refl (c .refused2 .ensures)) (a .stands .tracks .traced) (same-rows k))
     (λ c. let k = paused c in k .advance .kept .1 .1 .1 .1 .1 .0 ∙ stored k .store-value .kept .0)
     (λ c. paused c .advance .kept .1 .1 .1 .1 .1 .1 .0)
     (λ c x s. let k = paused c in absurd (never-paused s (passes (told k)) (reaches k x s) (c .before .enum-told2 .given .1)))
@@ -138,4 +154,4 @@ run-spec =
     (record { same-lanes = s .serves .same-lanes; same-symbols = s .serves .same-symbols; same-bytes = sees (a .stands); keeps = a .stands .keeps })
     (sym (a .return-word)) in
     runs-as s (ended-arrived s (passes (told k)) a (f .before .before .before .enum-told3 .given .1))
-    (c .answered .ensures x (a .state) (s .inputs) (counts s (passes (told k)) a) r) (a .stands .tracks .traced) (same-rows k)))
+    (c .answered .ensures x (a .state) (counts s (passes (told k)) a) r) (a .stands .tracks .traced) (same-rows k)))

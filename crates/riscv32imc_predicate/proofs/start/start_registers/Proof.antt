@@ -15,7 +15,9 @@ start-registers-spec =
     (λ c. search needs)
     (λ c. search needs)
     (λ c. search needs)
+    (λ c. search needs)
     (λ c n h.
-    let x = c .before .args .x10 in
+    let s = c .before in
+    let x = s .args .x10 in
     let z : length (x .values) ≡ lanes = search needs in
-    rw (c .unknown .ensures) (start-held x z n h)))
+    rw (c .unknown .ensures) (start-held x z (s .args .told) (s .pre) n h)))

@@ -1,0 +1,17 @@
+-- The inputs that the lanes are for (document 02, Three): a first and a last byte, and all between. Document 01's are 6 to 255.
+use mathlib.Core.List.{List}
+use Prim.Native.Nat.{ℕ, suc, _-_}
+use Rattle.lane_word.specs.declared.InputRange.{InputRange}
+use Rattle.lane_word.specs.Word.{inputs}
+
+-- the bytes that name no channel of six
+abbrev pub invalidChannels : InputRange
+invalidChannels = record { first = 6; last = 255 }
+
+-- how many inputs there are, the last among them; none where the first is above the last
+abbrev pub inputCount : InputRange → ℕ
+inputCount range = suc (range .last) - range .first
+
+-- these, in rising order
+abbrev pub inputsIn : InputRange → List ℕ
+inputsIn range = inputs (range .first) (inputCount range)
