@@ -4,8 +4,9 @@
 
 use lanes::answer::Case;
 use lanes::asm::*;
-use lanes::original;
-use lanes::port::{ENTRY, Lent, Port, ROW};
+use lanes::original::{self, Text};
+use lanes::port::{Call, ENTRY, HAS_RANGES, Lent, Port, ROW};
+use lanes::range::InputRange;
 use lanes::riscv32imc::Rv32SymbolLayout;
 use lanes::riscv32imc_predicate::execute_invalid_channel_predicate;
 use std::time::Duration;
@@ -132,19 +133,60 @@ fn time(often: u32, mut call: impl FnMut()) -> f64 {
     (used() - start).as_nanos() as f64 / f64::from(often)
 }
 
-/// Nanoseconds for a step of an image that the Rust refuses.
-fn measured_alone(port: &mut Port, case: &Case, lent: Lent, rounds: usize) -> (f64, f64) {
-    assert!(original::run(case).result.is_err());
-    let input = case.input();
-    let (status, written) = port.call(&input, lent);
+/// A call from deeper on the stack. Where a call's words lie there changes its time by a tenth and more, so each round has its own depth.
+#[inline(never)]
+fn deeper(levels: usize, call: &mut dyn FnMut()) {
+    let room = std::hint::black_box([0u8; 64]);
+    match levels {
+        0 => call(),
+        _ => deeper(levels - 1, call),
+    }
+    std::hint::black_box(room);
+}
+
+/// The depth of a round: up to 4 KB, with no two of the first 41 alike.
+fn depth(round: usize) -> usize {
+    round * 12 % 41
+}
+
+/// The steps of an accepted run without events.
+fn steps_of(port: &mut Port, call: Call, lent: Lent) -> f64 {
+    let (status, written) = port.call(call, lent);
     assert_eq!((status, written % 14), (0, 21 % 14));
-    let steps = ((written - 21) / 14) as f64;
-    let times = (0..rounds).map(|_| {
-        time(1, || {
-            std::hint::black_box(port.call(&input, lent));
-        })
-    });
-    (steps, median(times.collect()) / steps)
+    ((written - 21) / 14) as f64
+}
+
+/// Steps, and nanoseconds for one, of calls that take turns; each is of an image without events.
+fn measured_alone<const CALLS: usize>(port: &mut Port, calls: [Call; CALLS], lent: Lent, rounds: usize) -> (f64, [f64; CALLS]) {
+    let steps = steps_of(port, calls[0], lent);
+    assert!(calls.iter().all(|call| steps_of(port, *call, lent) == steps));
+    let often = (20_000.0 / steps).max(1.0) as u32;
+    let mut times = [const { Vec::new() }; CALLS];
+    for round in 0..rounds {
+        for (call, times) in calls.iter().zip(&mut times) {
+            let mut once = || _ = std::hint::black_box(port.call(*call, lent));
+            deeper(depth(round), &mut || times.push(time(often, &mut once)));
+        }
+    }
+    (steps, times.map(|times| median(times) / steps))
+}
+
+/// All lanes, the Rust's and one, where the library has ranges.
+const RANGES: [InputRange; 3] = [InputRange { first: 0, last: 255 }, InputRange::INVALID_CHANNELS, InputRange { first: 7, last: 7 }];
+
+/// The same image over each range, by the port alone.
+fn over_ranges(port: &mut Port, long: Lent, small: Lent, rounds: usize) {
+    let of_lanes = RANGES.map(|range| format!(" {}-{}, ns a step |", range.first, range.last)).concat();
+    println!("\n| image, over ranges | steps |{of_lanes}\n|---|---|---|---|---|");
+    for (name, case, lent) in [
+        ("ALU loop", arithmetic(100_000, LANES), long),
+        ("division loop", division(100_000), long),
+        ("loads and stores on the stack", stack(100_000), long),
+        ("document 01's example", Case::plain(code(&[0x4505, RET])), small),
+    ] {
+        let (steps, times) = measured_alone(port, RANGES.map(|range| Call::Range(&case, range)), lent, rounds);
+        println!("| {name} | {steps} |{}", times.map(|time| format!(" {time:.1} |")).concat());
+    }
 }
 
 struct Timed {
@@ -156,17 +198,16 @@ struct Timed {
 fn measured(port: &mut Port, case: &Case, lent: Lent, rounds: usize) -> Timed {
     let input = case.input();
     let symbols = Rv32SymbolLayout { entry: case.entry, event_count: case.event_count, events: case.events };
-    let result = original::run(case).result.expect("the image is accepted");
-    let (status, written) = port.call(&input, lent);
+    let result = original::run(Text::Unchanged, case).result.expect("the image is accepted");
+    let (status, written) = port.call(Call::Input(&input), lent);
     assert_eq!((status, written), (0, (21 + 17 * result.events.len() + 14 * result.trace.len()) as u64));
     let steps = result.trace.len() as f64;
     let often = (20_000.0 / steps).max(1.0) as u32;
     let (mut originals, mut ports) = (Vec::new(), Vec::new());
-    for _ in 0..rounds {
+    for round in 0..rounds {
         originals.push(time(often, || drop(std::hint::black_box(execute_invalid_channel_predicate(&case.image, symbols)))));
-        ports.push(time(often, || {
-            std::hint::black_box(port.call(&input, lent));
-        }));
+        let mut once = || _ = std::hint::black_box(port.call(Call::Input(&input), lent));
+        deeper(depth(round), &mut || ports.push(time(often, &mut once)));
     }
     Timed { steps, original: median(originals), port: median(ports) }
 }
@@ -223,7 +264,12 @@ fn main() {
         );
     }
     for (name, funct3) in [("MULH", 1), ("MULHSU", 2), ("MULHU", 3)] {
-        let (steps, port) = measured_alone(port, &product(100_000, funct3), long, rounds);
-        println!("| {name} loop | {steps} | refused | {port:.1} | |");
+        let case = product(100_000, funct3);
+        assert!(original::run(Text::Unchanged, &case).result.is_err());
+        let (steps, [time]) = measured_alone(port, [Call::Input(&case.input())], long, rounds);
+        println!("| {name} loop | {steps} | refused | {time:.1} | |");
+    }
+    if HAS_RANGES {
+        over_ranges(port, long, small, rounds);
     }
 }

@@ -1,5 +1,7 @@
 //! What a run answers, in document 01's numbers, and its record.
 
+use crate::range::InputRange;
+
 /// The input of a run.
 #[derive(Clone, Debug, PartialEq, Eq)]
 pub struct Case {
@@ -7,12 +9,18 @@ pub struct Case {
     pub event_count: u32,
     pub events: u32,
     pub image: Vec<u8>,
+    /// The range for `lane_run_range`. Without one the run is `lane_run`'s, over the Rust's own.
+    pub chosen: Option<InputRange>,
 }
 
 impl Case {
     /// An image whose first byte is its entry, with the events' symbols out of its way.
     pub fn plain(image: Vec<u8>) -> Self {
-        Self { entry: 0x8000_0000, event_count: 0x8011_0000, events: 0x8011_0004, image }
+        Self { entry: 0x8000_0000, event_count: 0x8011_0000, events: 0x8011_0004, image, chosen: None }
+    }
+
+    pub fn range(&self) -> InputRange {
+        self.chosen.unwrap_or(InputRange::INVALID_CHANNELS)
     }
 
     /// The bytes that the program `lane-run` reads.
@@ -31,6 +39,8 @@ pub type Step = [u32; 4];
 
 #[derive(Clone, Debug, PartialEq, Eq)]
 pub struct Accepted {
+    pub first_input: u8,
+    pub lane_count: u16,
     pub return_value: u32,
     pub lane_operations: u64,
     pub written: u32,
@@ -54,29 +64,44 @@ pub fn entry(step: &Step) -> [u8; 13] {
     bytes
 }
 
+impl Accepted {
+    fn record(&self) -> Vec<u8> {
+        let mut bytes = vec![1, self.first_input];
+        bytes.extend(self.lane_count.to_le_bytes());
+        let steps = self.trace.len() as u32;
+        let operations = u32::try_from(self.lane_operations).unwrap();
+        for number in [self.return_value, steps, operations, self.written] {
+            bytes.extend(number.to_le_bytes());
+        }
+        bytes.push(self.events.len() as u8);
+        for event in &self.events {
+            bytes.push(2);
+            event.iter().for_each(|number| bytes.extend(number.to_le_bytes()));
+        }
+        for step in &self.trace {
+            bytes.push(3);
+            bytes.extend(entry(step));
+        }
+        bytes
+    }
+}
+
 impl Answer {
-    /// The record's bytes.
-    pub fn record(&self) -> Vec<u8> {
+    /// The record's bytes; it holds no number above 14.
+    pub fn record(&self) -> Option<Vec<u8>> {
         match self {
-            Self::Refused { number, role, steps } => [&[0x7f, *number, *role], &steps.to_le_bytes()[..]].concat(),
-            Self::Accepted(result) => {
-                let mut bytes = vec![1, 6, 250, 0];
-                let steps = result.trace.len() as u32;
-                let operations = u32::try_from(result.lane_operations).unwrap();
-                for number in [result.return_value, steps, operations, result.written] {
-                    bytes.extend(number.to_le_bytes());
-                }
-                bytes.push(result.events.len() as u8);
-                for event in &result.events {
-                    bytes.push(2);
-                    event.iter().for_each(|number| bytes.extend(number.to_le_bytes()));
-                }
-                for step in &result.trace {
-                    bytes.push(3);
-                    bytes.extend(entry(step));
-                }
-                bytes
-            }
+            Self::Accepted(result) => Some(result.record()),
+            Self::Refused { number: 15.., .. } => None,
+            Self::Refused { number, role, steps } => Some([&[0x7f, *number, *role], &steps.to_le_bytes()[..]].concat()),
+        }
+    }
+
+    /// What the library answers with so many bytes of output lent, and what it writes there.
+    pub fn handed(&self, output: usize) -> (u32, Vec<u8>) {
+        match (self, self.record()) {
+            (Self::Refused { number, .. }, None) => ((*number).into(), Vec::new()),
+            (_, Some(record)) if record.len() <= output => (0, record),
+            _ => (16, Vec::new()),
         }
     }
 

@@ -467,7 +467,7 @@ fn long(list: &mut List) {
 
 pub fn short() -> Vec<Bound> {
     let mut list = List::default();
-    list.ample("document 01's example", Case { entry: 0x8000_0000, event_count: 0x8000_1000, events: 0x8000_1004, image: code(&END) });
+    list.ample("document 01's example", Case { event_count: 0x8000_1000, events: 0x8000_1004, ..Case::plain(code(&END)) });
     sizes(&mut list);
     symbols(&mut list);
     addresses(&mut list);

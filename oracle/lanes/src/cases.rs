@@ -4,6 +4,7 @@ use crate::answer::Case;
 use crate::asm::*;
 use crate::hints;
 use crate::random::Random;
+use crate::range::InputRange;
 
 /// Sets x3 to x31, but not x10, to addresses past the image or numbers, so that what follows finds known words.
 fn known_registers(random: &mut Random) -> Code {
@@ -431,8 +432,24 @@ impl Stream<'_> {
         }
     }
 
+    /// A store or a load at an address that hangs on the input, which one lane may have.
+    fn indexed(&mut self) {
+        let funct3 = self.random.below(3);
+        self.code.constant(9, 0x8016_0000);
+        self.put(c_add(9, 10));
+        if self.random.chance(50) {
+            let value = self.even();
+            self.put(s(funct3, 9, value, 0));
+        } else {
+            let rd = self.temporary();
+            self.put(load(funct3, rd, 9, 0));
+            self.tags[rd as usize] = Tag::Even;
+        }
+    }
+
     fn chunk(&mut self) {
-        match self.random.below(21) {
+        let kinds = if self.tags[10] == Tag::Even { 22 } else { 21 };
+        match self.random.below(kinds) {
             0 | 1 => self.constant(),
             2..=7 => self.arithmetic(),
             8..=11 => self.stack(),
@@ -441,8 +458,17 @@ impl Stream<'_> {
             16 | 17 => self.call(),
             18 => self.event(),
             19 => self.across_end(),
-            _ => self.written_code(),
+            20 => self.written_code(),
+            _ => self.indexed(),
         }
+    }
+
+    /// What SLTIU compares the input with: even for the Rust's own range, and at or next to the ends of a chosen one.
+    fn bound(&mut self) -> i32 {
+        self.case.chosen.map_or(6, |range| {
+            let (first, last) = (i32::from(range.first), i32::from(range.last));
+            *self.random.pick(&[first, first, first + 1, last, last + 1, last + 1])
+        })
     }
 
     /// x10 made even, or sometimes left as it is.
@@ -450,7 +476,10 @@ impl Stream<'_> {
         let even = self.even();
         match self.random.below(4) {
             _ if self.slips() => {}
-            0 => self.put(i(0x13, 3, 10, 10, 6)),
+            0 => {
+                let bound = self.bound();
+                self.put(i(0x13, 3, 10, 10, bound));
+            }
             1 => self.put(addi(10, even, 0)),
             2 => self.put(i(0x13, 7, 10, 10, 0)),
             _ => self.put(0x4505),
@@ -459,13 +488,13 @@ impl Stream<'_> {
 }
 
 /// A firmware that is mostly accepted: it saves x1, works on lanes, the stack and memory, records events, and returns.
-pub fn stream(domain: Domain, random: &mut Random) -> Case {
+pub fn stream(domain: Domain, chosen: Option<InputRange>, random: &mut Random) -> Case {
     let event_count = 0x8015_0000 + 4 * random.below(0x100);
-    let case = Case { entry: 0x8000_0000, event_count, events: event_count + 4 + random.below(64), image: Vec::new() };
+    let case = Case { event_count, events: event_count + 4 + random.below(64), chosen, ..Case::plain(Vec::new()) };
     let careless = *random.pick(&[0, 0, 10, 40]);
     let mut tags = [Tag::Unknown; 32];
     tags[0] = Tag::Even;
-    tags[10] = Tag::Uneven;
+    tags[10] = if case.range().lanes() == 1 { Tag::Even } else { Tag::Uneven };
     let size = 400 + random.below(400) as usize;
     let (end, past_end) = (0x8000_0000 + size as u32, Tag::Even);
     let (code, frame, recorded) = (Code::default(), [Tag::Even; FRAME], 0);
@@ -479,7 +508,7 @@ pub fn stream(domain: Domain, random: &mut Random) -> Case {
             stream.tags[rd as usize] = Tag::Even;
         } else if stream.random.chance(70) {
             stream.put(c_mv(rd, 10));
-            stream.tags[rd as usize] = Tag::Uneven;
+            stream.tags[rd as usize] = stream.tags[10];
         }
     }
     for _ in 0..2 + stream.random.below(12) {

@@ -1,6 +1,6 @@
-//! The lane run three times over: the Rust's own files, unchanged; the port, linked as a static library; and a model written from
-//! document 01, for what the Rust doesn't say (steps of a refusal, lent memory) and for what it refuses against the manual.
-//! With it demand 3's scalar run, and cases for all.
+//! The lane run three times over: the Rust's own files, unchanged, and for chosen ranges changed in two places or three; the port, linked as
+//! a static library; and a model written from document 01, for what the Rust doesn't say (steps of a refusal, lent memory) and for what it
+//! refuses against the manual. With it demand 3's scalar run, and cases for all.
 
 include!(concat!(env!("OUT_DIR"), "/sources.rs"));
 
@@ -16,5 +16,7 @@ pub mod model;
 pub mod original;
 pub mod port;
 pub mod random;
+pub mod range;
+pub mod range_cases;
 pub mod scalar;
 pub mod upper_halves;

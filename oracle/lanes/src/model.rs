@@ -1,4 +1,4 @@
-//! Document 01's lane run with lent memory, for what the Rust doesn't say: the completed steps of a refusal, refusals 13 and 14,
+//! Document 01's lane run with lent memory, for what the Rust doesn't say: the completed steps of a refusal, refusals 13, 14 and 17,
 //! and the trace up to a refusal. The Rust stays the judge, and a model that differs from it is wrong, up to the first instruction outside
 //! the Rust's domain; from there on the model follows the manual.
 
@@ -6,19 +6,14 @@ use crate::answer::{Accepted, Answer, Case, Step};
 use crate::machine::*;
 use riscv_decode::Words;
 
-const LANES: usize = 250;
-
-#[derive(Clone, Copy)]
+/// A value for each input of the range.
+#[derive(Clone)]
 struct Lanes {
-    values: [u32; LANES],
+    values: Vec<u32>,
     known: bool,
 }
 
 impl Lanes {
-    fn constant(value: u32) -> Self {
-        Self { values: [value; LANES], known: true }
-    }
-
     fn uniform(&self, role: u8) -> Result<u32, (u8, u8)> {
         if !self.known {
             return Err((6, role));
@@ -30,11 +25,12 @@ impl Lanes {
     }
 
     fn map(&self, function: impl Fn(u32) -> u32) -> Self {
-        Self { values: std::array::from_fn(|lane| function(self.values[lane])), known: self.known }
+        Self { values: self.values.iter().map(|value| function(*value)).collect(), known: self.known }
     }
 
     fn zip(&self, right: &Self, function: Function) -> Self {
-        Self { values: std::array::from_fn(|lane| function(self.values[lane], right.values[lane])), known: self.known && right.known }
+        let values = self.values.iter().zip(&right.values).map(|(left, right)| function(*left, *right)).collect();
+        Self { values, known: self.known && right.known }
     }
 }
 
@@ -51,7 +47,8 @@ pub struct Outside {
 pub struct Model {
     place: Vec<u32>,
     addresses: Vec<usize>,
-    cells: Vec<([u8; LANES], bool)>,
+    cells: Vec<(Vec<u8>, bool)>,
+    lanes: usize,
     pub trace: Vec<Step>,
     /// Distinct bytes written when the run ended.
     pub written: usize,
@@ -65,6 +62,7 @@ impl Default for Model {
             place: vec![0; MEMORY as usize],
             addresses: Vec::new(),
             cells: Vec::new(),
+            lanes: 0,
             trace: Vec::new(),
             written: 0,
             outside: None,
@@ -96,9 +94,13 @@ impl Model {
         }
     }
 
+    fn constant(&self, value: u32) -> Lanes {
+        Lanes { values: vec![value; self.lanes], known: true }
+    }
+
     fn load(&self, image: &[u8], address: u32, width: u32) -> Result<Lanes, Refusal> {
         let at = in_range(address, width).map_err(plain)?;
-        let mut word = Lanes::constant(0);
+        let mut word = self.constant(0);
         for byte in 0..width as usize {
             match self.place[at + byte] {
                 0 => {
@@ -122,26 +124,30 @@ impl Model {
     fn store(&mut self, at: usize, width: u32, word: &Lanes) {
         for byte in 0..width as usize {
             if self.place[at + byte] == 0 {
-                self.cells.push(([0; LANES], true));
+                self.cells.push((Vec::new(), true));
                 self.addresses.push(at + byte);
                 self.place[at + byte] = self.cells.len() as u32;
             }
             let cell = self.place[at + byte] as usize - 1;
-            self.cells[cell] = (std::array::from_fn(|lane| (word.values[lane] >> (8 * byte)) as u8), word.known);
+            self.cells[cell] = (word.values.iter().map(|value| (value >> (8 * byte)) as u8).collect(), word.known);
         }
     }
 
     fn answer(&mut self, case: &Case, rows: usize, entries: usize) -> Result<Accepted, Refusal> {
         start_test(&case.image, [case.entry, case.event_count, case.events]).map_err(plain)?;
+        if case.range().is_empty() {
+            return Err((17, 0));
+        }
         if rows < 4 {
             return Err((13, 0));
         }
-        self.store((STOP - BASE) as usize, 4, &Lanes::constant(STOP_WORD));
-        let mut x = [Lanes { values: [0; LANES], known: false }; 32];
-        x[0] = Lanes::constant(0);
-        x[1] = Lanes::constant(STOP);
-        x[2] = Lanes::constant(0x801f_fff0);
-        x[10] = Lanes { values: std::array::from_fn(|lane| 6 + lane as u32), known: true };
+        self.lanes = case.range().lanes();
+        self.store((STOP - BASE) as usize, 4, &self.constant(STOP_WORD));
+        let mut x = vec![Lanes { known: false, ..self.constant(0) }; 32];
+        x[0] = self.constant(0);
+        x[1] = self.constant(STOP);
+        x[2] = self.constant(0x801f_fff0);
+        x[10] = Lanes { values: case.range().inputs().collect(), known: true };
         let mut pc = case.entry;
         while pc != STOP {
             pc = self.step(case, pc, &mut x, rows, entries)?;
@@ -162,19 +168,19 @@ impl Model {
         Ok((word, bytes))
     }
 
-    fn step(&mut self, case: &Case, pc: u32, x: &mut [Lanes; 32], rows: usize, entries: usize) -> Result<u32, Refusal> {
+    fn step(&mut self, case: &Case, pc: u32, x: &mut [Lanes], rows: usize, entries: usize) -> Result<u32, Refusal> {
         if self.trace.len() as u32 >= MAX_STEPS {
             return Err((3, 0));
         }
         let (word, bytes) = self.fetch(case, pc)?;
         let mut next = pc.wrapping_add(bytes);
-        let mut set = (0, Lanes::constant(0));
+        let mut set = (0, self.constant(0));
         let mut put = None;
         match action(word, pc).map_err(plain)? {
             Action::Nothing => {}
-            Action::Set { rd, value } => set = (rd, Lanes::constant(value)),
+            Action::Set { rd, value } => set = (rd, self.constant(value)),
             Action::Jump { rd, target } => {
-                set = (rd, Lanes::constant(next));
+                set = (rd, self.constant(next));
                 next = target;
             }
             Action::JumpTo { rd, rs1, offset } => {
@@ -182,7 +188,7 @@ impl Model {
                 if target == 0 {
                     return Err((10, 0));
                 }
-                set = (rd, Lanes::constant(next));
+                set = (rd, self.constant(next));
                 next = target;
             }
             Action::Branch { test, rs1, rs2, target } => {
@@ -241,8 +247,10 @@ impl Model {
             events.push(event);
         }
         Ok(Accepted {
+            first_input: case.range().first,
+            lane_count: self.lanes as u16,
             return_value,
-            lane_operations: LANES as u64 * self.trace.len() as u64,
+            lane_operations: self.lanes as u64 * self.trace.len() as u64,
             written: self.cells.len() as u32,
             events,
             trace: self.trace.clone(),

@@ -3,11 +3,12 @@
 use crate::answer::{Accepted, Case};
 use crate::machine::length;
 use crate::model::Outside;
+use crate::range::{self, InputRange};
 use crate::riscv32imc::{Rv32SymbolLayout, decompress};
-use crate::riscv32imc_predicate::execute_invalid_channel_predicate;
 use riscv_decode::Words;
 
 /// The result, or number and role; a refusal's own text; and the words that were decoded.
+#[derive(PartialEq, Eq)]
 pub struct Original {
     pub result: Result<Accepted, (u8, u8)>,
     pub text: String,
@@ -25,6 +26,12 @@ impl Original {
         let instruction = riscv_decode::decode(fetched).expect("the manual has the word");
         let text = format!("{OWN}unsupported instruction at 0x{pc:08x}: {instruction:?}");
         self.text == text && self.decoded == before.and(fetched)
+    }
+
+    /// Number and role with the text, or the steps.
+    pub fn told(&self) -> String {
+        let steps = self.result.as_ref().map(|result| result.trace.len());
+        format!("{steps:?} ({}) after {} words", self.text, self.decoded.count)
     }
 }
 
@@ -84,32 +91,61 @@ pub fn number_of(text: &str) -> (u8, u8) {
     }
 }
 
-pub fn run(case: &Case) -> Original {
-    let symbols = Rv32SymbolLayout { entry: case.entry, event_count: case.event_count, events: case.events };
+/// Which of the Rust's texts runs a case.
+#[derive(Clone, Copy, PartialEq, Eq)]
+pub enum Text {
+    Unchanged,
+    /// With its two constants changed, for ranges that end at 255.
+    Constants,
+    /// With the end of `input_domain` changed too, for other ranges.
+    End,
+}
+
+impl Text {
+    /// Where there is no input, the Rust is asked for what it tests first.
+    pub fn of(case: &Case) -> Self {
+        match case.chosen {
+            None => Self::Unchanged,
+            Some(range) if range.is_empty() => Self::Unchanged,
+            Some(InputRange { last: u8::MAX, .. }) => Self::Constants,
+            Some(_) => Self::End,
+        }
+    }
+}
+
+/// What one of the texts answers; each has types of its own.
+macro_rules! answer_of {
+    ($text:ident, $case:expr) => {{
+        let Case { entry, event_count, events, ref image, .. } = *$case;
+        crate::$text::execute_invalid_channel_predicate(image, Rv32SymbolLayout { entry, event_count, events }).map(|found| {
+            assert!(found.symbolic_transitions == found.control_trace.len() as u64);
+            assert!(found.events.len() == found.event_program_locations.len());
+            let events = found.events.iter().zip(&found.event_program_locations);
+            let steps = found.control_trace.iter();
+            Accepted {
+                first_input: found.first_input,
+                lane_count: found.lane_count,
+                return_value: found.return_value,
+                lane_operations: found.lane_value_operations,
+                written: found.sparse_memory_bytes,
+                events: events.map(|(event, location)| [event.operation, event.offset, event.value, *location]).collect(),
+                trace: steps
+                    .map(|step| [step.program_counter, step.instruction_word, step.instruction_bytes.into(), step.next_program_counter])
+                    .collect(),
+            }
+        })
+    }};
+}
+
+pub fn run(text: Text, case: &Case) -> Original {
+    range::choose(case.range());
     riscv_decode::given();
-    let result = execute_invalid_channel_predicate(&case.image, symbols);
+    let result = match text {
+        Text::Unchanged => answer_of!(riscv32imc_predicate, case),
+        Text::Constants => answer_of!(changed_constants, case),
+        Text::End => answer_of!(changed_end, case),
+    };
     let decoded = riscv_decode::given();
     let text = result.as_ref().err().map_or(String::new(), |error| error.0.clone());
-    let result = result.map_err(|error| number_of(&error.0)).map(|found| {
-        assert!(found.first_input == 6 && found.lane_count == 250);
-        assert!(found.symbolic_transitions == found.control_trace.len() as u64);
-        assert!(found.events.len() == found.event_program_locations.len());
-        Accepted {
-            return_value: found.return_value,
-            lane_operations: found.lane_value_operations,
-            written: found.sparse_memory_bytes,
-            events: found
-                .events
-                .iter()
-                .zip(&found.event_program_locations)
-                .map(|(event, location)| [event.operation, event.offset, event.value, *location])
-                .collect(),
-            trace: found
-                .control_trace
-                .iter()
-                .map(|step| [step.program_counter, step.instruction_word, step.instruction_bytes.into(), step.next_program_counter])
-                .collect(),
-        }
-    });
-    Original { result, text, decoded }
+    Original { result: result.map_err(|error| number_of(&error.0)), text, decoded }
 }

@@ -168,7 +168,7 @@ pub fn checked(random: &mut Random) -> Known {
     operand(&mut code, 5, random);
     operand(&mut code, 6, random);
     code.all(&by_halves(which)).all(&[upper(which, 10, 5, 6), r(0x20, 0, 10, 10, 11), RET]);
-    Known { name: format!("{} and halves", NAMES[which]), case: Case::plain(code.0), judge: MANUAL, outcome: Ok(0), words: None }
+    Known::new(format!("{} and halves", NAMES[which]), Case::plain(code.0), MANUAL, Ok(0))
 }
 
 pub fn known() -> Vec<Known> {

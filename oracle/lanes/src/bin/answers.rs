@@ -50,7 +50,7 @@ impl List {
             if outside {
                 self.outside += 1;
             } else {
-                self.cases.push((case.input(), answer.record()));
+                self.cases.push((case.input(), answer.record().expect("number 14 at most")));
             }
         }
     }
@@ -65,7 +65,7 @@ fn main() -> std::io::Result<()> {
         bounds.iter().skip(start).step_by(7).for_each(|bound| list.offer("edge", &bound.case));
     }
     for _ in 0..2_000 {
-        let case = cases::stream(Domain::Rust, random);
+        let case = cases::stream(Domain::Rust, None, random);
         list.offer("stream", &case);
         list.offer("damaged", &cases::damaged(case, random));
     }
