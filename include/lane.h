@@ -2,8 +2,8 @@
 
    What is lent must not overlap, and each pointer must be valid for its length, even where that is 0 (then any non-null pointer serves).
    The library keeps nothing between calls, allocates nothing and locks nothing: calls from several threads are independent, as long as
-   they are lent different memory. A call takes less than LANE_STACK_BYTES of stack: lane_run and lane_run_image about 75 KB, the other two
-   under 4 KB (x86-64, examples/c/stack.c).
+   they are lent different memory. A call takes less than LANE_STACK_BYTES of stack: lane_run, lane_run_image and lane_run_range about
+   75 KB, the other two under 4 KB (x86-64, examples/c/stack.c).
 
    docs/RECORD.md has the record's format and rules, docs/GUARANTEE.md what an accepted record promises. */
 #ifndef LANE_H
@@ -16,7 +16,7 @@
 extern "C" {
 #endif
 
-/* Refusals: 1 to 14 are a run's, as its record has them; 14 to 16 are also answers of the functions below. */
+/* Refusals: 1 to 14 are a run's, as its record has them; 14 to 17 are answers of the functions below, and no record has one above 14. */
 enum lane_refusal {
     LANE_REFUSAL_IMAGE_SIZE = 1,    /* image empty or too large */
     LANE_REFUSAL_SYMBOL = 2,        /* entry, event count or events outside memory */
@@ -33,7 +33,8 @@ enum lane_refusal {
     LANE_REFUSAL_ROWS = 13,         /* too few rows lent */
     LANE_REFUSAL_TRACE = 14,        /* too few trace entries lent */
     LANE_REFUSAL_RULES = 15,        /* the record's rules are broken */
-    LANE_REFUSAL_OUTPUT = 16        /* output too short for the record */
+    LANE_REFUSAL_OUTPUT = 16,       /* output too short for the record */
+    LANE_REFUSAL_INPUT_RANGE = 17   /* first input above last */
 };
 
 /* Which value refusals 6 and 7 speak of. */
@@ -52,14 +53,15 @@ enum lane_role {
 };
 
 /* Limits. */
-#define LANE_FIRST_INPUT 6
-#define LANE_LANES 250
+#define LANE_FIRST_INPUT 6                     /* of lane_run, lane_run_image and the program lane-run */
+#define LANE_LAST_INPUT 255                    /* of the same */
+#define LANE_MAX_LANES 256                     /* of lane_run_range, from input 0 to 255 */
 #define LANE_MAX_STEPS 1000000
 #define LANE_MAX_EVENTS 32
 #define LANE_MEMORY_START UINT32_C(0x80000000)
 #define LANE_MEMORY_END UINT32_C(0x80200000)   /* the first address past it */
 #define LANE_STOP UINT32_C(0x801FFFFC)
-#define LANE_MAX_IMAGE_BYTES 1048576           /* of lane_run_image */
+#define LANE_MAX_IMAGE_BYTES 1048576           /* of lane_run_image and lane_run_range */
 #define LANE_MAX_INPUT_IMAGE_BYTES 32768       /* of lane_run and the program lane-run */
 #define LANE_SYMBOL_BYTES 12                   /* before the image in an input */
 #define LANE_MAX_INPUT_BYTES (LANE_SYMBOL_BYTES + LANE_MAX_INPUT_IMAGE_BYTES)
@@ -83,7 +85,7 @@ struct lane_event {
 /* Kinds of outcome, as a record's first byte. */
 enum lane_kind { LANE_KIND_ACCEPTED = 0x01, LANE_KIND_REFUSED = 0x7F };
 
-/* What a record says beside its steps. */
+/* What a record says beside its steps. An accepted run's inputs are first_input to first_input + lanes - 1; steps may be 0 where lanes is 1. */
 struct lane_outcome {
     uint32_t kind;
     uint32_t number, role, completed_steps;                          /* of a refused run; otherwise 0 */
@@ -94,10 +96,11 @@ struct lane_outcome {
 
 typedef char lane_outcome_has_139_words[sizeof(struct lane_outcome) == 139 * sizeof(uint32_t) ? 1 : -1];
 
-/* Runs an input: entry, event count address, events address (4 bytes each, little-endian), then the image, 1 to
-   LANE_MAX_INPUT_IMAGE_BYTES. Any other input has the record of refusal 1. 0: *written bytes of the record are in output, and what lies
-   past them is untouched. LANE_REFUSAL_OUTPUT: nothing is written there, and *written is 0. In both cases the rows are zero afterwards,
-   whatever they held before, and the entries of completed steps stand in the trace, whose others are untouched. */
+/* Runs what the program lane-run reads, with LANE_FIRST_INPUT to LANE_LAST_INPUT in the lanes: entry, event count address, events address
+   (4 bytes each, little-endian), then the image, 1 to LANE_MAX_INPUT_IMAGE_BYTES. Anything else has the record of refusal 1.
+   0: *written bytes of the record are in output, and what lies past them is untouched. LANE_REFUSAL_OUTPUT: nothing is written there, and
+   *written is 0. In both cases the rows are zero afterwards, whatever they held before, and the entries of completed steps stand in the
+   trace, whose others are untouched. */
 uint32_t lane_run(const uint8_t *input, size_t input_len, uint8_t *rows, size_t rows_len, uint8_t *trace, size_t trace_len,
                   uint8_t *output, size_t output_len, uint64_t *written);
 
@@ -105,8 +108,16 @@ uint32_t lane_run(const uint8_t *input, size_t input_len, uint8_t *rows, size_t 
 uint32_t lane_run_image(const uint8_t *image, size_t image_len, uint32_t entry, uint32_t event_count, uint32_t events, uint8_t *rows,
                         size_t rows_len, uint8_t *trace, size_t trace_len, uint8_t *output, size_t output_len, uint64_t *written);
 
-/* Reads a record. 0: *outcome is what it says, and the trace's first entries are its steps. LANE_REFUSAL_RULES: bytes are no record.
-   LANE_REFUSAL_TRACE: the trace has fewer entries than the record has steps. After these two nothing is written. */
+/* The same with first_input to last_input in the lanes, from 1 to LANE_MAX_LANES of them; the record carries first_input and their number.
+   Where first_input is above last_input, and the run has neither refusal 1 nor 2, LANE_REFUSAL_INPUT_RANGE: nothing is written to output,
+   *written is 0, the rows are zero, and the trace is untouched. */
+uint32_t lane_run_range(const uint8_t *image, size_t image_len, uint32_t entry, uint32_t event_count, uint32_t events, uint8_t first_input,
+                        uint8_t last_input, uint8_t *rows, size_t rows_len, uint8_t *trace, size_t trace_len, uint8_t *output,
+                        size_t output_len, uint64_t *written);
+
+/* Reads a record, of any range of inputs: a loader compares first_input and lanes with its own. 0: *outcome is what it says, and the trace's
+   first entries are its steps. LANE_REFUSAL_RULES: bytes are no record. LANE_REFUSAL_TRACE: the trace has fewer entries than the record has
+   steps. After these two nothing is written. */
 uint32_t lane_read_record(const uint8_t *bytes, size_t bytes_len, uint8_t *trace, size_t trace_len, struct lane_outcome *outcome);
 
 /* Writes the record of an outcome and of the trace's first entries. 0: *written bytes of the record are in output, and what lies past them
@@ -158,6 +169,7 @@ static inline const char *lane_refusal_text(uint32_t number)
     case LANE_REFUSAL_TRACE: return "more steps than trace entries lent";
     case LANE_REFUSAL_RULES: return "the record's rules are broken";
     case LANE_REFUSAL_OUTPUT: return "output too short for the record";
+    case LANE_REFUSAL_INPUT_RANGE: return "first input above last";
     default: return "no refusal";
     }
 }

@@ -6,7 +6,7 @@
 #include <string.h>
 #include <ucontext.h>
 
-enum { ROWS = 1000, ENTRIES = 5000, PAINT = 0xA5 };
+enum { ROWS = 1000, ENTRIES = 5000, PAINT = 0xA5, CALLS = 5 };
 
 static uint8_t input[LANE_MAX_INPUT_BYTES + 1];
 static uint8_t rows[ROWS * LANE_ROW_BYTES];
@@ -24,6 +24,12 @@ static void run_image(void)
 {
     lane_run_image(input + LANE_SYMBOL_BYTES, length - LANE_SYMBOL_BYTES, lane_word_at(input), lane_word_at(input + 4), lane_word_at(input + 8),
                    rows, sizeof rows, trace, sizeof trace, record, sizeof record, &written);
+}
+
+static void run_range(void)
+{
+    lane_run_range(input + LANE_SYMBOL_BYTES, length - LANE_SYMBOL_BYTES, lane_word_at(input), lane_word_at(input + 4), lane_word_at(input + 8),
+                   LANE_FIRST_INPUT, LANE_LAST_INPUT, rows, sizeof rows, trace, sizeof trace, record, sizeof record, &written);
 }
 
 static void read_record(void) { lane_read_record(record, (size_t)written, trace, sizeof trace, &outcome); }
@@ -48,21 +54,21 @@ static size_t taken(void (*call)(void))
 
 int main(int argc, char **argv)
 {
-    void (*calls[])(void) = {run, run_image, read_record, write_record};
-    const char *names[] = {"lane_run", "lane_run_image", "lane_read_record", "lane_write_record"};
-    size_t most[4] = {0, 0, 0, 0};
+    void (*calls[CALLS])(void) = {run, run_image, run_range, read_record, write_record};
+    const char *names[CALLS] = {"lane_run", "lane_run_image", "lane_run_range", "lane_read_record", "lane_write_record"};
+    size_t most[CALLS] = {0};
     for (int k = 1; k < argc; k++) {
         FILE *file = fopen(argv[k], "rb");
         if (file == NULL || (length = fread(input, 1, sizeof input, file)) <= LANE_SYMBOL_BYTES || fclose(file) != 0) {
             fprintf(stderr, "stack: %s: no input\n", argv[k]);
             return 2;
         }
-        for (int c = 0; c < 4; c++) {
+        for (int c = 0; c < CALLS; c++) {
             size_t now = taken(calls[c]);
             most[c] = now > most[c] ? now : most[c];
         }
     }
-    for (int c = 0; c < 4; c++)
+    for (int c = 0; c < CALLS; c++)
         printf("%s %lu\n", names[c], (unsigned long)most[c]);
     return 0;
 }

@@ -16,12 +16,13 @@ ACCEPTED, REFUSED = 0x01, 0x7F
 REFUSALS = ['no refusal', 'the image is empty or too large', 'a symbol lies outside memory', 'not at stop after 1,000,000 steps', 'address below memory',
             "access past memory's end", 'unknown', 'not the same in all lanes', 'halfword not accepted', 'word not accepted', 'jump target 0',
             "store below the image's end", 'event count above 32 or unlike the number of recorded SWs',
-            'more distinct written bytes than rows lent', 'more steps than trace entries lent', "the record's rules are broken", 'output too short for the record']
+            'more distinct written bytes than rows lent', 'more steps than trace entries lent', "the record's rules are broken", 'output too short for the record',
+            'first input above last']
 ROLES = ['', 'fetch', 'jump target', 'load address', 'store address', 'branch', 'return value', 'event count', 'operation', 'offset', 'value']
 
 
 class Refusal(Exception):
-    """An answer of the library's own: 14, 15 or 16. A run's refusal stands in its record."""
+    """An answer of the library's own, 14 to 17. A run's refusal stands in its record."""
 
     def __init__(self, number):
         super().__init__(f'{number} {REFUSALS[number]}')
@@ -70,7 +71,8 @@ class Outcome:
     def __str__(self):
         o = self.words
         if self.accepted:
-            return f'accepted: return value {o.return_value}, {o.event_count} events, {o.steps} steps'
+            inputs = f'inputs {o.first_input} to {o.first_input + o.lanes - 1}'
+            return f'accepted for {inputs}: return value {o.return_value}, {o.event_count} events, {o.steps} steps'
         role = f', role {o.role} {ROLES[o.role]}' if o.role else ''
         return f'refused: {o.number} {REFUSALS[o.number]}{role}, after {o.completed_steps} steps'
 
@@ -78,9 +80,10 @@ class Outcome:
 def load(path):
     """The library, with the types of lane.h. Lent bytes are arrays of chars."""
     library = ctypes.CDLL(path)
-    lent, word = [ctypes.c_char_p, ctypes.c_size_t], ctypes.c_uint32
+    lent, word, byte = [ctypes.c_char_p, ctypes.c_size_t], ctypes.c_uint32, ctypes.c_uint8
     written, outcome = ctypes.POINTER(ctypes.c_uint64), ctypes.POINTER(Words)
     for name, types in {'lane_run': lent * 4 + [written], 'lane_run_image': lent + [word] * 3 + lent * 3 + [written],
+                        'lane_run_range': lent + [word] * 3 + [byte] * 2 + lent * 3 + [written],
                         'lane_read_record': lent * 2 + [outcome], 'lane_write_record': [outcome] + lent * 2 + [written]}.items():
         getattr(library, name).argtypes = types
         getattr(library, name).restype = word
@@ -116,6 +119,13 @@ def run(data, rows=200, entries=2048):
 def run_image(image, entry, event_count, events, rows=200, entries=2048):
     """The record of an image of up to 1,048,576 bytes."""
     return called(LIBRARY.lane_run_image, image, len(image), entry, event_count, events, *buffer(rows * ROW_BYTES),
+                  *buffer(entries * ENTRY_BYTES), output=record_bytes(entries))
+
+
+def run_range(image, entry, event_count, events, first, last, rows=200, entries=2048):
+    """The same with the inputs from first to last, each from 0 to 255, in place of 6 to 255."""
+    inputs = bytes([first, last])  # ctypes would cut a larger number
+    return called(LIBRARY.lane_run_range, image, len(image), entry, event_count, events, *inputs, *buffer(rows * ROW_BYTES),
                   *buffer(entries * ENTRY_BYTES), output=record_bytes(entries))
 
 

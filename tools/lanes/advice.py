@@ -1,6 +1,8 @@
 """What to do about a refusal, in a sentence (docs/REFUSALS.md has the same at more length)."""
 import re
 
+from . import record
+
 SYSTEM = {
     'ebreak': 'EBREAK stops for a debugger: GCC makes it of __builtin_trap and of a division by the constant 0. Record a fault and '
               'return instead',
@@ -21,13 +23,20 @@ UNEVEN = {
     2: 'the jump target depends on the channel, as in a switch by jump table or a table of functions: test the bound first',
     3: 'the address depends on the channel, as in a table with an entry for each: test the bound before the table is read',
     4: 'the address depends on the channel, as in a table with an entry for each: test the bound before the table is written',
-    5: 'the branch goes one way for some invalid channels and another way for others. Compare the channel with the bound alone, '
-       'ch < 6 or ch >= 6; ch <= 6 is true of the invalid channel 6 and false of 7, and GCC makes it of ch < 6 ? ch : 6',
-    6: 'the return value depends on the channel: return the same for every invalid channel',
-    7: 'the event count depends on the channel: raise the same number of events for every invalid channel',
-    8: "an event's operation depends on the channel: record the same for every invalid channel",
-    9: "an event's offset depends on the channel: record the same for every invalid channel",
-    10: "an event's value depends on the channel: record the same for every invalid channel"}
+    5: 'the branch goes one way for some {some} and another way for others. {bound}',
+    6: 'the return value depends on the channel: return the same for every {every}',
+    7: 'the event count depends on the channel: raise the same number of events for every {every}',
+    8: "an event's operation depends on the channel: record the same for every {every}",
+    9: "an event's offset depends on the channel: record the same for every {every}",
+    10: "an event's value depends on the channel: record the same for every {every}"}
+SIX_CHANNELS = {
+    'some': 'invalid channels', 'every': 'invalid channel',
+    'bound': 'Compare the channel with the bound alone, ch < 6 or ch >= 6; ch <= 6 is true of the invalid channel 6 and false of 7, and '
+             'GCC makes it of ch < 6 ? ch : 6'}
+OTHER_RANGE = {
+    'some': 'inputs', 'every': 'input of the range',
+    'bound': 'Compare the channel with the bounds of the range alone, or give with --inputs the range that the firmware treats alike; '
+             'ch <= n is true of n and false of n + 1, and GCC makes it of ch < n ? ch : n'}
 PLAIN = {
     1: 'an image has from 1 to 1,048,576 bytes, after 12 bytes of addresses: is the file a packed input or an ELF?',
     2: 'entry, event count and events lie in 80000000 to 801fffff: is the file a packed input (tools/pack-firmware)?',
@@ -43,17 +52,21 @@ PLAIN = {
         'and record at most 32 events'}
 
 
-def advice(number, role, instruction, lent_rows, lent_steps):
-    """One sentence; instruction is the refused one in words, or None."""
+def advice(number, role, instruction, given):
+    """One sentence; instruction is the refused one in words, or None, and given has the options."""
     if number == 13:
-        return f'lend more rows, as --rows {min(4 * max(lent_rows, 4), 2097152)}: one for each byte that is written, and four for stop'
+        return f'lend more rows, as --rows {min(4 * max(given.rows, 4), 2097152)}: one for each byte that is written, and four for stop'
     if number == 14:
-        return f'lend more entries, as --steps {min(4 * max(lent_steps, 1), 1000000)}, or see in the last steps whether it loops'
+        return f'lend more entries, as --steps {min(4 * max(given.steps, 1), 1000000)}, or see in the last steps whether it loops'
+    if number == record.FIRST_ABOVE_LAST:
+        return f'give the smaller input first, as --inputs {given.inputs.last}-{given.inputs.first}'
     name, base = (instruction or '').split(' ')[0], re.search(r'\((\w+)\)', instruction or '')
     if number == 6 and base and base[1] in ('gp', 'tp'):
         return f'it goes through {base[1]}, which is not set at entry: leave __global_pointer$ undefined when linking, or -Wl,--no-relax'
-    if number in (6, 7):
-        return (UNKNOWN if number == 6 else UNEVEN)[role].format(base=base[1] if base else 'a register')
+    if number == 6:
+        return UNKNOWN[role].format(base=base[1] if base else 'a register')
+    if number == 7:
+        return UNEVEN[role].format(**(SIX_CHANNELS if given.inputs == record.INVALID_CHANNELS else OTHER_RANGE))
     if number == 9 and name in SYSTEM:
         return SYSTEM[name]
     return PLAIN[number]

@@ -7,7 +7,10 @@ import struct
 from .command import ROOT
 
 STOP = 0x801FFFFC
-LANES, FIRST_INPUT, MOST_STEPS, MOST_EVENTS = 250, 6, 1000000, 32
+MOST_INPUTS, MOST_STEPS, MOST_EVENTS = 256, 1000000, 32
+LAST_REFUSAL = 14  # the last number that a record holds
+FIRST_ABOVE_LAST = 17  # the refusal of a range of inputs
+CALLERS = (1, 2, FIRST_ABOVE_LAST)  # the refusals of what a caller chose, before any step
 HEADING, EVENT, STEP, REFUSAL = 0x01, 0x02, 0x03, 0x7F
 SIZES = {HEADING: 21, EVENT: 17, STEP: 14, REFUSAL: 7}
 NAMES = {HEADING: 'heading', EVENT: 'event', STEP: 'step', REFUSAL: 'refusal'}
@@ -26,10 +29,12 @@ Step = collections.namedtuple('Step', 'program_counter word length next_program_
 Event = collections.namedtuple('Event', 'operation offset value location')
 Accepted = collections.namedtuple('Accepted', 'first_input lanes return_value steps lane_operations written_bytes events trace')
 Refused = collections.namedtuple('Refused', 'number role completed_steps')
+InputRange = collections.namedtuple('InputRange', 'first last')
+INVALID_CHANNELS = InputRange(6, 255)  # of a six-channel controller: what lane-run runs
 
 
 def cause(number):
-    return 'caller' if number <= 2 else 'firmware' if number <= 12 else 'lender'
+    return 'caller' if number in CALLERS else 'firmware' if number <= 12 else 'lender'
 
 
 def reason(number, role):
@@ -54,7 +59,17 @@ def verdict(outcome):
     if isinstance(outcome, Accepted):
         return (f'accepted: return value {value(outcome.return_value)}, {count(len(outcome.events), "event")}, '
                 f'{count(outcome.steps, "step")}')
-    return f'refused {outcome.number}: {reason(*outcome[:2])}, after {count(outcome.completed_steps, "step")}'
+    after = f', after {count(outcome.completed_steps, "step")}' if outcome.number <= LAST_REFUSAL else ''
+    return f'refused {outcome.number}: {reason(*outcome[:2])}{after}'
+
+
+def inputs_of(accepted):
+    """The inputs that an accepted run speaks of."""
+    return InputRange(accepted.first_input, accepted.first_input + accepted.lanes - 1)
+
+
+def inputs_text(inputs):
+    return f'input {inputs.first}' if inputs.first == inputs.last else f'every input from {inputs.first} to {inputs.last}'
 
 
 def event_text(place, event):
@@ -108,8 +123,8 @@ def broken_rule(record):
 
 def broken_refusal(record):
     number, role, done = struct.unpack('<BBI', record[1:7])
-    if not 1 <= number <= 14:
-        return 1, f'the number of a refusal is from 1 to 14, not {number}'
+    if not 1 <= number <= LAST_REFUSAL:
+        return 1, f'the number of a refusal is from 1 to {LAST_REFUSAL}, not {number}'
     if number in (6, 7) and not 1 <= role <= 10:
         return 2, f'the role of a refusal {number} is from 1 to 10, not {role}'
     if number not in (6, 7) and role:
@@ -121,11 +136,12 @@ def broken_refusal(record):
 
 def broken_heading(record):
     first, lanes, _, done, operations, written, events = struct.unpack('<BHIIIIB', record[1:21])
+    least = 0 if lanes == 1 else 1
     rules = [
-        (1, first == FIRST_INPUT, f'the first input is {FIRST_INPUT}, not {first}'),
-        (2, lanes == LANES, f'the lanes are {LANES}, not {lanes}'),
-        (8, 1 <= done <= MOST_STEPS, f'the steps are from 1 to {MOST_STEPS:,}, not {done:,}'),
-        (12, operations == LANES * done, f'the lane operations are {LANES} for each step, {LANES * done:,}, not {operations:,}'),
+        (2, lanes >= 1, 'the lanes are at least 1, not 0'),
+        (2, first + lanes <= MOST_INPUTS, f'the first input and the lanes are at most {MOST_INPUTS} together, not {first} + {lanes}'),
+        (8, least <= done <= MOST_STEPS, f'the steps of {count(lanes, "lane")} are from {least} to {MOST_STEPS:,}, not {done:,}'),
+        (12, operations == lanes * done, f'the lane operations are {lanes} for each step, {lanes * done:,}, not {operations:,}'),
         (16, 4 <= written <= 2097151, f'the written bytes are from 4 to 2,097,151, not {written:,}'),
         (20, events <= MOST_EVENTS, f'the events are at most {MOST_EVENTS}, not {events}')]
     return next(((at, text) for at, holds, text in rules if not holds), None)
@@ -148,7 +164,7 @@ def broken_body(record):
                 return wrong
             expected, = struct.unpack_from('<I', record, at + 10)
         at += SIZES[kind]
-    if expected != STOP:
+    if expected not in (None, STOP):  # none without a step
         return at - 4, f'the last step leads to stop, {STOP:08x}, not to {expected:08x}'
     return (at, f'{count(len(record) - at, "byte")} after the end of the record') if len(record) > at else None
 

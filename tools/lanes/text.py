@@ -75,7 +75,8 @@ def lines(outcome):
     if isinstance(outcome, record.Refused):
         more = '; ./lane-check lends more' if outcome.number in (13, 14) else ''
         return [f'{record.verdict(outcome)} (caused by the {record.cause(outcome.number)}{more})']
-    heading = f'{record.verdict(outcome)}, for every input from 6 to 255; {record.count(outcome.written_bytes, "written byte")}'
+    inputs = record.inputs_text(record.inputs_of(outcome))
+    heading = f'{record.verdict(outcome)}, for {inputs}; {record.count(outcome.written_bytes, "written byte")}'
     return [heading, *(record.event_text(k, event) for k, event in enumerate(outcome.events, 1)),
             *(f'{k:6,}  {riscv.step(step)}' for k, step in enumerate(outcome.trace, 1))]
 
