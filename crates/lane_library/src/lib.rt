@@ -159,15 +159,12 @@ pub fn run_range(
 {
     let run = riscv32imc_predicate::execute_predicate(image, symbols, range, rows, trace);
     let answer = run.answer;
-    match answer {
-        PredicateAnswer::Accepted => RunAnswer::Recorded(write_run(run, trace, output)),
-        PredicateAnswer::Refused(error) => {
-            if LAST_REFUSAL < error.number() as u32 {
-                return RunAnswer::Refused(error);
-            }
-            RunAnswer::Recorded(write_run(run, trace, output))
+    if let PredicateAnswer::Refused(error) = answer {
+        if LAST_REFUSAL < error.number() as u32 {
+            return RunAnswer::Refused(error);
         }
     }
+    RunAnswer::Recorded(write_run(run, trace, output))
 }
 
 // The run of an input as the program takes it: every input has a record, and 16 is the one refusal besides.

@@ -1,4 +1,5 @@
 use mathlib.Core.Path.{refl}
+use mathlib.Core.Logic.{⊎-elim}
 use Prim.Native.Nat.{_<_}
 use native.Mathlib.Omega.{arith}
 use denote.Ref.{now}
@@ -11,16 +12,8 @@ use Rattle.lane_library.proofs.Laws.{range-runs, accepted-recorded, ref
 use Rattle.lane_library.proofs.run_range.Statement.{statement}
 use Rattle.lane_library.proofs.run_range.Tie as tie
 
--- what the run was given
-abbrev given : tie.After-execute-predicate → tie.Start
-given e = e .before .before .before .before .before .before .before
-
 last-byte : (s : tie.Start) → s .args .range .last < lanes
 last-byte s = omega arith
-
--- where it is refused
-abbrev refused-run : tie.After-answer → tie.After-execute-predicate
-refused-run q = q .before .before .before .before .before .before
 
 pub run-range-spec : {M : Type 1} → statement M
 run-range-spec =
@@ -30,58 +23,38 @@ run-range-spec =
     (λ c. search needs)
     (λ c κs. search needs)
     (λ c. search needs)
-    (λ c κs. search needs)
-    (λ c. search needs)
     (λ c. search needs)
     (λ c. search needs)
     (λ c.
     let n = c .before in
     let q = n .before .before in
-    let e = refused-run q in
+    let e = q .before .before .before .before .before .before in
     unrecorded-runs (q .answer .given .0 .0)
     (e .execute-predicate .ensures) (q .answer .given .1) (lt-leb (refusalOf (q .answer .given .0 .0) .number) lastRefusal (omega (arith, n .number .ensures, c .if1 .taken))) refl)
+    (λ c. search needs)
     (λ c κs. search needs)
     (λ c. search needs)
     (λ c. search needs)
     (λ c. search needs)
     (λ c.
     let w = c .before .before in
-    let t = w .before .before .before in
-    let e = t .before .before .before .before .before .before in
-    let a = given e .args in
+    let j = w .before .before .before in
+    let e = j .before .before .before .before .before in
+    let s = e .before .before .before .before .before .before .before in
+    let a = s .args in
     range-runs (record {
       image = now (a .image);
       symbols = a .symbols;
       range = a .range;
-      byte = last-byte (given e);
+      byte = last-byte s;
       before = lent (now (a .rows)) (now (a .trace)) (now (a .output));
       after = _;
       run = _;
       ran = e .execute-predicate .ensures;
-      has-record = accepted-recorded (e .execute-predicate .ensures) (t .enum-told .given .1);
+      has-record = ⊎-elim
+          (λ r. refusal-recorded (e .execute-predicate .ensures) (r .1 .given .0 .0) (r .1 .given .1) (le-leb (refusalOf (r .1 .given .0 .0) .number) lastRefusal (omega (arith, r .3 .ensures, r .4 .left))))
+          (λ r. accepted-recorded (e .execute-predicate .ensures) (r .1 .given .1))
+          (j .match .came);
       answer = _;
       writes = w .write-run .ensures;
-    }))
-    (λ c. search needs)
-    (λ c. search needs)
-    (λ c. search needs)
-    (λ c.
-    let w = c .before .before in
-    let l = w .before .before .before in
-    let n = l .before in
-    let q = n .before .before in
-    let e = refused-run q in
-    let a = given e .args in
-    range-runs (record {
-      image = now (a .image);
-      symbols = a .symbols;
-      range = a .range;
-      byte = last-byte (given e);
-      before = lent (now (a .rows)) (now (a .trace)) (now (a .output));
-      after = _;
-      run = _;
-      ran = e .execute-predicate .ensures;
-      has-record = refusal-recorded (e .execute-predicate .ensures) (q .answer .given .0 .0) (q .answer .given .1) (le-leb (refusalOf (q .answer .given .0 .0) .number) lastRefusal (omega (arith, n .number .ensures, l .if1 .left)));
-      answer = _;
-      writes = w .write-run2 .ensures;
     })))
