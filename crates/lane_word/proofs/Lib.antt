@@ -5,4 +5,5 @@ pub mod SpareLaws
 pub mod Scan
 pub mod Words
 pub mod ToldLaws
+pub mod Divisor
 pub mod OneFlag

@@ -2,6 +2,7 @@
 pub mod Word
 pub mod Range
 pub mod Flags
--- For the code's proofs: words told by one value, and lanes without an input of their own.
+-- For the code's proofs: words told by one value, lanes without an input of their own, and words that are a power of two.
 pub mod Told
 pub mod Spare
+pub mod Divisor

@@ -9,7 +9,10 @@ ghost use Rattle.lane_word.specs.Word.{lanes, unknown, constant, domain,
 ghost use Rattle.lane_word.specs.Range.{invalidChannels, inputCount};
 ghost use Rattle.lane_word.specs.Spare.{laneInputs};
 ghost use Rattle.lane_word.specs.Told.{wordOf, toldBy};
+ghost use Rattle.lane_word.specs.Divisor.{commonPower};
 use rv32_arithmetic::Binary;
+use rv32_arithmetic::PowerOfTwo;
+use rv32_arithmetic::power_of;
 use rv32_arithmetic::value;
 
 // One flag serves all lanes: the flags of one word always agree.
@@ -76,6 +79,24 @@ pub fn tell(known: bool, values: &[u32]) -> Uniform
             break Uniform::Uneven;
         }
         k += 1;
+    }
+}
+
+// The power of two that every lane is. Lane 0 is looked at first: where it is none, the others need not be.
+fn common_power(known: bool, values: &[u32]) -> PowerOfTwo
+    requires { ⌜ length (now values) ≡ lanes ⌝ }
+    ensures { λ r. ⌜ r ≡ commonPower (record { values = now (values .entry); known = known }) ⌝ }
+{
+    let power = power_of(values[0]);
+    match power {
+        PowerOfTwo::Places(_) => {}
+        PowerOfTwo::Other => return PowerOfTwo::Other,
+    }
+    let uniform = tell(known, values);
+    match uniform {
+        Uniform::Value(_) => power,
+        Uniform::Unknown => PowerOfTwo::Other,
+        Uniform::Uneven => PowerOfTwo::Other,
     }
 }
 
@@ -291,9 +312,15 @@ impl LaneWord {
         self.map_binary(right, Binary::Div)
     }
 
+    // By one power of two in every lane, a shift that is chosen once for the word.
     pub fn divu(self, right: LaneWord) -> LaneWord
         ensures { λ r. ⌜ r ≡ binary divu self right ⌝ }
     {
+        let power = common_power(right.known, &right.values);
+        match power {
+            PowerOfTwo::Places(places) => return self.map_unary(Binary::Srl, places),
+            PowerOfTwo::Other => {}
+        }
         self.map_binary(right, Binary::Divu)
     }
 

@@ -3,5 +3,6 @@ pub mod Bits
 pub mod Arithmetic
 pub mod Value
 pub mod Halves
+pub mod Divisor
 -- For the code's proofs:
 pub mod Correction

@@ -3,6 +3,7 @@ ghost use mathlib.Core.Path.{_≡_};
 ghost use Rattle.rv32_arithmetic.specs.Arithmetic.{signed, unsigned, flag, add, sub, sll, srl, sra, slt, sltu, and, or, xor, mul, mulh, mulhsu, mulhu, div, divu, rem, remu, beq, bne, bge, bgeu, target};
 ghost use Rattle.rv32_arithmetic.specs.Bits.{signExtend, byteOf, join};
 ghost use Rattle.rv32_arithmetic.specs.Correction.{correction};
+ghost use Rattle.rv32_arithmetic.specs.Divisor.{powerOf};
 ghost use Rattle.rv32_arithmetic.specs.Value.{valueOf};
 
 // A word read as a two's complement number. `!` takes n to -n - 1.
@@ -167,13 +168,37 @@ pub fn rv32_rem(dividend: u32, divisor: u32) -> u32
     divide(dividend, divisor).remainder
 }
 
+// Whether a number is one of the 32 powers of two, and of how many places.
+pub enum PowerOfTwo {
+    Places(u32),
+    Other,
+}
+
+// The zeros below the lowest bit are the places if no bit is above it.
+pub fn power_of(x: u32) -> PowerOfTwo
+    ensures { λ r. ⌜ r ≡ powerOf x ⌝ }
+{
+    let places = u32::trailing_zeros(x) % 32;
+    if 1u32 << places == x {
+        return PowerOfTwo::Places(places);
+    }
+    PowerOfTwo::Other
+}
+
+// By a power of two a shift, which costs less than a division.
 pub fn rv32_divu(a: u32, b: u32) -> u32
     ensures { λ r. ⌜ r ≡ divu a b ⌝ }
 {
-    if b == 0 {
-        return 0xffff_ffff;
+    let power = power_of(b);
+    match power {
+        PowerOfTwo::Places(places) => a >> places,
+        PowerOfTwo::Other => {
+            if b == 0 {
+                return 0xffff_ffff;
+            }
+            a / b
+        }
     }
-    a / b
 }
 
 pub fn rv32_remu(a: u32, b: u32) -> u32
