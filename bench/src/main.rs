@@ -46,6 +46,21 @@ fn division(steps: u32) -> Case {
     repeated(steps / 6, &[lui(5, 0xfedc_b000)], &body)
 }
 
+/// Sets x9 for `by_x9`: one number for all lanes, or a power of two for each, by the input's low five bits.
+fn number(n: i32) -> Vec<u32> {
+    vec![addi(9, 0, n)]
+}
+
+fn powers() -> Vec<u32> {
+    vec![addi(9, 0, 1), r(0, 1, 9, 9, 10)]
+}
+
+/// DIVU by funct7 1, SRL by 0: of values that differ, by x9.
+fn by_x9(steps: u32, funct7: u32, x9: Vec<u32>) -> Case {
+    let body = [6, 7, 6, 7].map(|rd| r(funct7, 5, rd, 5, 9));
+    repeated(steps / 6, &[vec![lui(5, 0xfedc_b000), r(1, 0, 5, 5, 10)], x9].concat(), &body)
+}
+
 /// MUL by funct3 0, MULH by 1, MULHSU by 2, MULHU by 3.
 fn product(steps: u32, funct3: u32) -> Case {
     let body = [r(1, funct3, 6, 5, 10), r(1, funct3, 7, 10, 5), r(1, funct3, 6, 5, 7), r(1, funct3, 7, 10, 6)];
@@ -227,6 +242,10 @@ fn main() {
     row("ALU loop", arithmetic(100_000, LANES), long);
     row("ALU loop on told words", arithmetic(100_000, TOLD), long);
     row("division loop", division(100_000), long);
+    row("DIVU by 64", by_x9(100_000, 1, number(64)), long);
+    row("SRL by 6", by_x9(100_000, 0, number(6)), long);
+    row("DIVU by 7", by_x9(100_000, 1, number(7)), long);
+    row("DIVU by powers of two that differ", by_x9(100_000, 1, powers()), long);
     row("MUL loop", product(100_000, 0), long);
     row("loads and stores on the stack", stack(100_000), long);
     row("branch loop", branches(100_000), long);

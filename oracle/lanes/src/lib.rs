@@ -15,6 +15,7 @@ pub mod machine;
 pub mod model;
 pub mod original;
 pub mod port;
+pub mod quotients;
 pub mod random;
 pub mod range;
 pub mod range_cases;

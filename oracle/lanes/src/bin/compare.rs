@@ -11,6 +11,7 @@ use lanes::compare::{Comparer, PATIENCE};
 use lanes::hints;
 use lanes::known::Known;
 use lanes::port::{ENTRY, Lent, ROW};
+use lanes::quotients;
 use lanes::random::Random;
 use lanes::range::InputRange;
 use lanes::range_cases;
@@ -53,6 +54,7 @@ impl Part {
         }
         self.expect_all("upper halves", upper_halves::known());
         self.expect_all("hints", hints::known());
+        self.expect_all("quotients", quotients::known());
         if self.ranges {
             range_cases::known().iter().for_each(|known| self.comparer.expect("worked out for a range", known));
             range_cases::each().for_each(|known| self.comparer.expect("every range", &known));
