@@ -11,7 +11,7 @@ use borrow.Author.Tests.{eq-eqb, ne-eqb}
 use lib.Dec.{eqb}
 use lib.Arith.{lt-of-le-ne}
 use lib.ListN.{length, getD, take, drop, replicate, length-set, length-append, length-drop, length-replicate, getD-replicate, List·getD-append}
-use lib.Seq.{drop-at, drop-set-lt, getD-set-same, getD-set-other}
+use lib.Seq.{drop-set-lt, getD-set-same, getD-set-other}
 use Rattle.little_endian.specs.Number.{value, AllBytes}
 use Rattle.little_endian.proofs.NumberLaws.{below-take, below-drop}
 use Rattle.rv32_arithmetic.specs.Bits.{byteOf, join}
@@ -28,7 +28,7 @@ use Rattle.lane_memory.specs.declared.Found.{Found}
 use Rattle.lane_memory.specs.declared.Found.the-variants.{At, Free, Full}
 use Rattle.lane_memory.proofs.Search.{same?}
 use Rattle.lane_memory.proofs.Bytes.{byte-size, byte-constant}
-use Rattle.lane_memory.proofs.Memory.{byteOr, byte-lookup, length-put, put-most, write-suc, lookup-write, used-most}
+use Rattle.lane_memory.proofs.Memory.{byteOr, byte-lookup, length-put, put-most, write-suc, lookup-write}
 use Rattle.lane_memory.proofs.HashTables.{Has, at-has, free-none, full-used, table-none, put-table}
 use Rattle.lane_memory.proofs.Loops.{new-most}
 use Rattle.lane_memory.proofs.RowBytes.{row-first, write-long, write-behind, held-others, Renders, held-written, lane-renders, value-renders}
@@ -159,17 +159,6 @@ cleared-long l =
     length-append (replicate (rowCount l * rowBytes) 0) (drop (rowCount l * rowBytes) l)
     ∙ omega (arith, length-replicate {A = ℕ} (rowCount l * rowBytes) 0, length-drop (rowCount l * rowBytes) l)
 
-pub cleared-twice : (l : List ℕ) → cleared (cleared l) ≡ cleared l
-cleared-twice l =
-    rw (cleared-long l, drop-at (replicate (rowCount l * rowBytes) 0) (drop (rowCount l * rowBytes) l) (rowCount l * rowBytes) (length-replicate (rowCount l * rowBytes) 0))
-
-pub holds-clear : (l : List ℕ) → Holds (cleared l) (rowCount l) []
-holds-clear l =
-    record {
-      rows = ap (λ (n : ℕ). n / rowBytes) (cleared-long l);
-      table = table-none (held (cleared l)) (rowCount l) (λ s h. zero-row (rowCount l * rowBytes) s (drop (rowCount l * rowBytes) l) (omega arith));
-    }
-
 -- ---- unmarking
 
 unmark-long : (n : ℕ) (l : List ℕ) → length (unmarkRows n l) ≡ length l
@@ -212,9 +201,6 @@ unmarked-holds l =
 -- ---- the rows hold a memory
 
 module _ {l : List ℕ} {n : ℕ} {m : List Written} (h : Holds l n m) where
-  pub holds-length : length m ≤ n
-  holds-length = omega (arith, used-most (held l) n, h .table .count)
-
   -- one row for an address
   pub one-row : (a s t : ℕ) → Has (held l s) a → Has (held l t) a → s < n → t < n → s ≡ t
   one-row a s t i j p q =
@@ -269,20 +255,6 @@ module _ {l : List ℕ} {n : ℕ} {m : List Written} (h : Holds l n m) where
           go (At s) e = let f : findIn (held l) n a ≡ At s = rw (h .rows) at e in taken s (at-has (held l) a n s f .1) (inl f)
           go (Free s) e = let f : findIn (held l) n a ≡ Free s = rw (h .rows) at e in taken s (free-none (held l) a n s f .1) (inr f)
           go Full e = absurd (omega (arith, full-exceeds e))
-
-  pub holds-put : (a : ℕ) (b : LaneWord) → a < 2 ^ 32 → length (b .values) ≡ lanes → length (put a b m) ≤ n → Holds (storeByte l a b) n (put a b m)
-  holds-put a b below size = holds-row a b below (lane-renders b size)
-
-  pub exceeds-full : (a : ℕ) (b : LaneWord) → a < 2 ^ 32 → length (b .values) ≡ lanes → n < length (put a b m) → rowOf l a ≡ Full
-  exceeds-full a b below size k = go (rowOf l a) refl
-    where
-      fits : (s : ℕ) → Holds (writeRow l s (laneRow a b)) n (put a b m) → ⊥
-      fits s p = omega (arith, used-most (held (writeRow l s (laneRow a b))) n, p .table .count)
-
-      go : (r : Found) → rowOf l a ≡ r → r ≡ Full
-      go (At s) e = let f : findIn (held l) n a ≡ At s = rw (h .rows) at e in absurd (fits s (taken a b below (lane-renders b size) s (at-has (held l) a n s f .1) (inl f)))
-      go (Free s) e = let f : findIn (held l) n a ≡ Free s = rw (h .rows) at e in absurd (fits s (taken a b below (lane-renders b size) s (free-none (held l) a n s f .1) (inr f)))
-      go Full e = refl
 
   new-or-held : (a : ℕ) → newAt (rowOf l a) + one (lookup a m) ≡ 1
   new-or-held a = rw (h .rows, ← h .table .same a) (go (findIn (held l) n a) refl)

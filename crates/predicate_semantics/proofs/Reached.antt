@@ -52,23 +52,3 @@ module _ (p : Program) (l : Setup) where
   unfolding after
   steps-after zero b {s} q = let f : b ≡ s = cc q in omega (arith, ap (λ (x : LaneState). x .steps) f)
   steps-after (suc n) b {s} q = let f = first-step n b s q in omega (arith, steps-after n (f .1) (f .3), step-steps p l b (f .1) (f .2))
-
-  pub reached-next : (n : ℕ) (s t : LaneState) → reached p l n ≡ some s → eqb (s .pc) stop ≡ false → step p l s ≡ passed t
-      → reached p l (suc n) ≡ some t
-  unfolding reached ifPassed
-  reached-next n s t q e h = let f = from-passed (start p l) q in rw (f .1) (after-next n (f .0) (f .2) e h)
-
-  kept-after : (n : ℕ) (b s : LaneState) → Kept p l b → after p l n b ≡ some s → Kept p l s
-  unfolding after
-  kept-after zero b s k q = let f : b ≡ s = cc q in rw (sym f) k
-  kept-after (suc n) b s k q = let f = first-step n b s q in kept-after n (f .1) s (kept-step p l b (f .1) k (f .2)) (f .3)
-
-  -- what every step keeps holds of each state that the run reaches
-  pub kept-reached : (n : ℕ) (s : LaneState) → reached p l n ≡ some s → Kept p l s
-  unfolding reached
-  kept-reached n s q = let f = from-passed (start p l) q in kept-after n (f .0) s (kept-start p l (f .0) (f .1) .0) (f .2)
-
-  -- the run has passed its first tests
-  pub reached-start : (n : ℕ) (s : LaneState) → reached p l n ≡ some s → start p l ≡ passed (begin p l)
-  unfolding reached
-  reached-start n s q = let f = from-passed (start p l) q in f .1 ∙ ap passed (kept-start p l (f .0) (f .1) .1)
