@@ -1,11 +1,11 @@
 -- An outcome's words read back as that outcome, and what was read is written again byte for byte. Assumes nothing.
 use mathlib.Core.Path.{_≡_, refl, ap, _∙_}
-use mathlib.Core.Bool.{Bool, true, false, cond, and-false}
+use mathlib.Core.Bool.{Bool, true, false, cond}
 use mathlib.Core.Option.{Option, none, some}
 use mathlib.Core.List.{List, [], _∷_, _++_}
 use Prim.Native.Nat.{ℕ, zero, suc, _*_, _≤_}
 use native.Mathlib.Omega.{arith}
-use borrow.Author.Tests.{lt-ltb, leb-true}
+use borrow.Author.Tests.{lt-ltb}
 use lib.Dec.{leb}
 use lib.ListN.{length, drop, length-append, length-drop}
 use Rattle.little_endian.specs.Number.{AllBytes}
@@ -20,11 +20,12 @@ use Rattle.lane_record.specs.declared.RecordAnswer.{RecordAnswer}
 use Rattle.lane_record.specs.declared.RecordAnswer.the-variants as recorded
 use Rattle.lane_record.specs.declared.RecordOutcome.{RecordOutcome}
 use Rattle.lane_record.specs.Format.{heading, widths, Record, accepted, refused, executionValues, FitsRecord}
-use Rattle.lane_record.specs.Rules.{executionValid, valid}
+use Rattle.lane_record.specs.Rules.{valid}
 use Rattle.lane_record.specs.Decode.{decodeRecord}
 use Rattle.lane_record.specs.Answers.{Said, done, wrote, refuses, writeSaid, noOutcome, acceptedOutcome, readAnswer, readOutcome, readTrace, given, writeAnswer, writeOutput}
 use Rattle.lane_record.proofs.TestLaws.{yes}
 use Rattle.lane_record.proofs.DecodeLaws.{rules, decode-same}
+use Rattle.lane_record.proofs.AnswerLaws.{few-events}
 use Rattle.lane_record.proofs.Theorems.{rewritten}
 use Rattle.lane_library.specs.Outcome.{count}
 use Rattle.lane_exports.specs.Boundary.{headingAt, answerWords, eventWords, code, wordsAfter, fit, formed, eventsFrom, outcomeFrom, FitsAnswer, FitsTypes, ReadsWords, WritesWords, BreaksRules, WordsBack, Rewrites}
@@ -87,17 +88,13 @@ no-execution = (omega arith, (omega arith, (omega arith, (omega arith, (omega ar
 
 module _ (e : PredicateTransducerExecution) (es : List CompiledMmioEvent) (ss : List PredicateControlStep)
     (f : FitsRecord (accepted e es ss)) (v : valid (accepted e es ss) ≡ true) where
-  few : (b : Bool) → leb (e .«event_count») maxEvents ≡ b → executionValid e ≡ true → e .«event_count» ≤ maxEvents
-  few true p h = leb-true _ _ p
-  few false p h = let q : false ≡ true = rw (p, and-false) at h in let z : _≡_ {A = ℕ} 0 1 = cc in absurd (omega arith)
-
   accepted-fits : (b : Bool) → cond {A = Said} b done (refuses 14) ≡ done → FitsTypes (cond b (acceptedOutcome e es) noOutcome)
   accepted-fits true d = record {
     answer = tt;
     execution = f .0;
     events =
         let r = rules e es ss v in
-        omega (arith, few (leb (e .«event_count») maxEvents) refl (r .0), r .1, length-append es (drop (length es) noEvents), length-drop (length es) noEvents);
+        omega (arith, few-events e (r .0), r .1, length-append es (drop (length es) noEvents), length-drop (length es) noEvents);
   }
   accepted-fits false d = let z : _≡_ {A = ℕ} 0 1 = cc in absurd (omega arith)
 

@@ -13,11 +13,12 @@ use Rattle.lane_word.specs.declared.InputRange.{InputRange}
 use Rattle.lane_word.specs.Word.{lanes}
 use Rattle.lane_word.specs.Range.{invalidChannels}
 use Rattle.predicate_semantics.specs.declared.Rv32SymbolLayout.{Rv32SymbolLayout}
-use Rattle.predicate_semantics.specs.Standing.{rangeTest}
+use Rattle.predicate_semantics.specs.StandingLanes.{rangeTest}
 use Rattle.predicate_semantics.specs.State.{Result}
 use Rattle.predicate_semantics.specs.Tested.{Tested, passed}
 use Rattle.predicate_answer.specs.declared.Rv32Error.{Rv32Error}
-use Rattle.predicate_answer.specs.Refusal.{Refusal, refusalOf, lastRefusal}
+use Rattle.predicate_answer.specs.Refusal.{Refusal, refusalOf}
+use Rattle.predicate_answer.specs.Blank.{lastRefusal}
 use Rattle.predicate_semantics.specs.Tested as Tested
 use Rattle.predicate_semantics.specs.Lane.{Ended}
 use Rattle.lane_memory.specs.Rows.{rowCount, cleared}

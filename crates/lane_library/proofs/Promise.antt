@@ -21,8 +21,10 @@ use Rattle.predicate_semantics.specs.Tested.{Tested, passed}
 use Rattle.predicate_semantics.specs.Tested as Tested
 use Rattle.predicate_semantics.specs.Lane.{LaneState, Ended, execution}
 use Rattle.predicate_semantics.specs.RecordRules.{Accepted, numbersOver}
-use Rattle.predicate_semantics.specs.Standing.{standing, setup, standingLaneRun, standingScalarRun}
-use Rattle.predicate_answer.specs.Blank.{noEvents}
+use Rattle.predicate_semantics.specs.Standing.{standing, standingScalarRun}
+use Rattle.predicate_semantics.specs.StandingLanes.{setup, standingLaneRun}
+use Rattle.predicate_answer.specs.declared.CompiledMmioEvent.{CompiledMmioEvent}
+use Rattle.predicate_answer.specs.Blank.{noExecution, noEvents}
 use Rattle.predicate_trace.specs.Trace.{entryBytes, traceBytes, stepsAt}
 use Rattle.predicate_semantics.proofs.RecordRules as Rules
 use Rattle.predicate_semantics.proofs.TraceFits.{standing-completed, standing-trace-fits}
@@ -38,7 +40,8 @@ use Rattle.lane_record.specs.Decode.{decodeRecord}
 use Rattle.lane_record.specs.Answers.{Said, done, wrote, refuses, readSaid, writeSaid, acceptedOutcome, noOutcome, Reads, Writes}
 use Rattle.lane_record.specs.Runs.{recordIn}
 use Rattle.lane_record.proofs.AnswerLaws.{length-encode}
-use Rattle.lane_library.specs.Outcome.{runRecord, recordBytes, RecordFits, resultRead, Promise}
+use Rattle.lane_library.specs.Outcome.{runRecord, recordBytes, RecordFits, CarriesRange}
+use Rattle.lane_library.specs.Promise.{resultRead, Promise}
 
 -- ---- what is written
 
@@ -78,6 +81,11 @@ record ReadAccepted (x : Record) : Type 0 where
   reads : Reads (some x) lent reading left
   is-done : readSaid (reading .answer) ≡ done
   is-accepted : reading .outcome .answer ≡ recorded.Accepted
+
+-- the numbers of an accepted record
+abbrev heading : Record → PredicateTransducerExecution
+heading (accepted e es ss) = e
+heading (refused f) = noExecution
 
 -- the scalar run of each input that an outcome names answers this
 abbrev EachInput : List ℕ → Rv32SymbolLayout → PredicateTransducerExecution → Result → Type 0
@@ -132,6 +140,15 @@ module _ (image : List ℕ) (symbols : Rv32SymbolLayout) (range : InputRange) (r
   pub size-fits : length (encode (runRecord image symbols range rows entries)) ≤ recordBytes entries
   size-fits = size-by (e .answer) refl
 
+  -- an accepted record's numbers are those of the range
+  carries-by : (a : Tested Result) → e .answer ≡ a → (x : PredicateTransducerExecution) (es : List CompiledMmioEvent) (ss : List PredicateControlStep)
+      → recordIn image symbols range rows entries s a ≡ accepted x es ss → (x .«first_input» ≡ range .first) × (x .«lane_count» ≡ inputCount range)
+  carries-by (passed r) q x es ss h =
+      let same : numbers r q [] ≡ x = ap heading h in
+      let over-range = Rules.execution-over (standing image symbols) range rows entries s r (in-order r q []) in
+      (ap (λ (y : PredicateTransducerExecution). y .«first_input») (sym same ∙ over-range), ap (λ (y : PredicateTransducerExecution). y .«lane_count») (sym same ∙ over-range))
+  carries-by (Tested.refused f) q x es ss h = let z : _≡_ {A = ℕ} 0 1 = cc in absurd (omega arith)
+
   answered : (a : Tested Result) → e .answer ≡ a → (h : ReadAccepted (recordIn image symbols range rows entries s a))
       → EachInput image symbols (h .reading .outcome .execution) (resultRead (h .reading .outcome) (h .left))
   answered (passed r) q h i low high others =
@@ -157,6 +174,9 @@ module _ (image : List ℕ) (symbols : Rv32SymbolLayout) (range : InputRange) (r
         is-done = d;
         is-accepted = a;
       })
+
+pub carries-range : CarriesRange
+carries-range image symbols range rows entries = carries-by image symbols range rows entries (standingLaneRun image symbols range rows entries .answer) refl
 
 pub record-fits : RecordFits
 record-fits image symbols range rows entries = size-fits image symbols range rows entries

@@ -4,29 +4,30 @@ use mathlib.Core.Path.{_≡_}
 use mathlib.Core.Bool.{Bool, true, false, cond}
 use mathlib.Core.Option.{some}
 use mathlib.Core.List.{List}
-use Prim.Native.Nat.{ℕ, _+_, _*_, _≤_, _<_}
-use lib.ListN.{length, take}
+use Prim.Native.Nat.{ℕ, _+_, _*_, _≤_}
+use lib.ListN.{length}
 use Rattle.little_endian.specs.Lent.{over}
 use Rattle.lane_word.specs.declared.InputRange.{InputRange}
-use Rattle.lane_word.specs.Range.{invalidChannels}
+use Rattle.lane_word.specs.Range.{invalidChannels, inputCount}
 use Rattle.predicate_semantics.specs.declared.Rv32SymbolLayout.{Rv32SymbolLayout}
 use Rattle.predicate_semantics.specs.State.{Result}
 use Rattle.predicate_semantics.specs.Tested.{Tested, passed}
 use Rattle.predicate_semantics.specs.Tested as Tested
-use Rattle.predicate_semantics.specs.Standing.{standingLaneRun, standingScalarRun}
+use Rattle.predicate_semantics.specs.StandingLanes.{standingLaneRun}
+use Rattle.predicate_answer.specs.declared.CompiledMmioEvent.{CompiledMmioEvent}
+use Rattle.predicate_answer.specs.declared.PredicateTransducerExecution.{PredicateTransducerExecution}
 use Rattle.predicate_answer.specs.Blank.{noEvents}
-use Rattle.predicate_trace.specs.Trace.{traceBytes, stepsAt, entryCount}
+use Rattle.predicate_trace.specs.declared.PredicateControlStep.{PredicateControlStep}
+use Rattle.predicate_trace.specs.Trace.{traceBytes, entryCount}
 use Rattle.lane_memory.specs.LentRows.{rowCount, cleared}
 use Rattle.predicate_answer.specs.Refusal.{refusalOf}
 use Rattle.lane_record.specs.declared.RecordRefusal.{RecordRefusal}
 use Rattle.lane_record.specs.declared.RecordAnswer.{RecordAnswer}
 use Rattle.lane_record.specs.declared.RecordAnswer.the-variants as recorded
 use Rattle.lane_record.specs.declared.RecordOutcome.{RecordOutcome}
-use Rattle.lane_record.specs.declared.RecordReading.{RecordReading}
 use Rattle.lane_record.specs.declared.WriteAnswer.{WriteAnswer}
-use Rattle.lane_record.specs.Format.{heading, event, step, size, Record, refused, encode}
-use Rattle.lane_record.specs.Decode.{decodeRecord}
-use Rattle.lane_record.specs.Answers.{Said, wrote, done, refuses, readSaid, writeSaid, writeAnswer, writeOutput, Reads, Writes}
+use Rattle.lane_record.specs.Format.{heading, event, step, size, Record, accepted, refused, encode}
+use Rattle.lane_record.specs.Answers.{Said, wrote, done, refuses, writeSaid, writeAnswer, writeOutput, Writes}
 use Rattle.lane_record.specs.Runs.{hasRecord, recordIn}
 use Rattle.riscv32imc_predicate.specs.declared.PredicateAnswer.{PredicateAnswer}
 use Rattle.riscv32imc_predicate.specs.declared.PredicateAnswer.the-variants as answer
@@ -35,6 +36,7 @@ use Rattle.riscv32imc_predicate.specs.Outcome.{runOver}
 use Rattle.lane_library.specs.declared.RunAnswer.{RunAnswer}
 use Rattle.lane_library.specs.declared.RunAnswer.the-variants as ran
 use Rattle.lane_library.specs.Inputs.{symbolsIn, imageIn, taken}
+use Rattle.lane_library.specs.Promise.{Promise}
 
 -- Who causes a refusal: a run's answer as its record says it, with the steps that it completed
 abbrev pub answerOf : PredicateAnswer → ℕ → RecordAnswer
@@ -72,11 +74,19 @@ runRecord image symbols range rows entries =
 abbrev pub recordBytes : ℕ → ℕ
 recordBytes entries = size heading + length noEvents * size event + entries * size step
 
--- that it is
+-- no record is longer
 abbrev pub RecordFits : Type 0
 RecordFits =
     (image : List ℕ) (symbols : Rv32SymbolLayout) (range : InputRange) (rows entries : ℕ)
     → length (encode (runRecord image symbols range rows entries)) ≤ recordBytes entries
+
+-- document 02, Three: an accepted record carries its range, by the first input and as many lanes as there are inputs
+abbrev pub CarriesRange : Type 0
+CarriesRange =
+    (image : List ℕ) (symbols : Rv32SymbolLayout) (range : InputRange) (rows entries : ℕ)
+    (e : PredicateTransducerExecution) (es : List CompiledMmioEvent) (ss : List PredicateControlStep)
+    → runRecord image symbols range rows entries ≡ accepted e es ss
+    → (e .«first_input» ≡ range .first) × (e .«lane_count» ≡ inputCount range)
 
 -- the record of a run over the whole rows and entries that are lent
 abbrev pub imageRecord : List ℕ → Rv32SymbolLayout → InputRange → List ℕ → List ℕ → Record
@@ -104,26 +114,6 @@ traceBy false input rows trace = trace
 pub record Gives (x : Record) (rows output : List ℕ) (r : WriteAnswer) (rows′ output′ : List ℕ) : Type 0 where
   pub writes : Writes (some x) output r output′
   pub zero : rows′ ≡ cleared rows
-
--- Scalar run: the result that a reader has of an outcome and the trace beside it
-abbrev pub resultRead : RecordOutcome → List ℕ → Result
-resultRead o t =
-    record {
-      returnValue = o .execution .«return_value»;
-      steps = o .execution .«symbolic_transitions»;
-      trace = stepsAt 0 (o .execution .«symbolic_transitions») t;
-      events = take (o .execution .«event_count») (o .events);
-    }
-
--- Demand 3 of the bytes themselves: what read_record gives of an accepted record is the scalar run of each input of the range that the record
--- itself carries, whatever the other registers hold
-abbrev pub Promise : List ℕ → Rv32SymbolLayout → Said → List ℕ → Type 0
-Promise image symbols said output =
-    (n : ℕ) → said ≡ wrote n
-    → (t : List ℕ) (reading : RecordReading) (t′ : List ℕ) → Reads (decodeRecord (take n output)) t reading t′
-    → readSaid (reading .answer) ≡ done → reading .outcome .answer ≡ recorded.Accepted
-    → (i : ℕ) → reading .outcome .execution .«first_input» ≤ i → i < reading .outcome .execution .«first_input» + reading .outcome .execution .«lane_count»
-    → (others : ℕ → ℕ) → standingScalarRun image symbols i others ≡ some (resultRead (reading .outcome) t′)
 
 -- the bytes that a caller lends, before a call or after it
 pub record LentMemory : Type 0 where

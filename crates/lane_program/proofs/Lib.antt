@@ -1,2 +1,3 @@
 -- Laws that the answers for the functions cite.
 pub mod Laws
+pub mod Example

@@ -1,2 +1,3 @@
 -- To believe: what the program writes of its input.
 pub mod Program
+pub mod Example

@@ -1,16 +1,19 @@
 -- What the program lane-run writes of its input (document 01, Record): the record of the run with the rows and entries that it lends.
 use mathlib.Core.Path.{_≡_}
 use mathlib.Core.List.{List}
-use Prim.Native.Nat.{ℕ, _*_, _≤_}
-use lib.ListN.{length, replicate}
+use Prim.Native.Nat.{ℕ, _+_, _*_, _≤_}
+use lib.ListN.{length, take, replicate}
 use Rattle.little_endian.specs.Lent.{over}
 use Rattle.predicate_trace.specs.Trace.{entryBytes}
 use Rattle.lane_memory.specs.LentRows.{rowBytes}
 use Rattle.lane_record.specs.Format.{Record, encode}
 use Rattle.lane_record.specs.Answers.{wrote}
-use Rattle.lane_library.specs.Inputs.{programRows, programEntries, symbolsIn, imageIn, taken}
-use Rattle.lane_library.specs.Outcome.{inputRecord, recordBytes, Promise}
+use Rattle.lane_library.specs.Inputs.{symbolBytes, programImageBytes, programRows, programEntries, symbolsIn, imageIn, taken}
+use Rattle.lane_library.specs.Outcome.{inputRecord, recordBytes}
+use Rattle.lane_library.specs.Promise.{Promise}
 use Rattle.lane_program.specs.declared.ProgramOutput.{ProgramOutput}
+use Rattle.lane_program.specs.declared.Reading.{Reading}
+use Rattle.lane_program.specs.declared.Reading.the-variants as reading
 
 -- Record: that of an input
 abbrev pub programRecord : List ℕ → Record
@@ -35,3 +38,12 @@ pub record Outputs (input : List ℕ) (r : ProgramOutput) : Type 0 where
   pub fits : r .count ≤ recordBytes programEntries
   pub bytes : r .bytes ≡ over (encode (programRecord input)) (replicate (recordBytes programEntries) 0)
   pub promise : Promise (imageIn input) (symbolsIn input) (wrote (r .count)) (r .bytes)
+
+-- Record: the program has room for one byte more than it takes, so that a longer input is seen to be longer
+abbrev pub inputBytes : ℕ
+inputBytes = symbolBytes + programImageBytes + 1
+
+-- what the program writes of what came of its input: after a failed read nothing
+abbrev pub Answers : Reading → List ℕ → ProgramOutput → Type 0
+Answers (reading.Bytes n) input r = Outputs (take n input) r
+Answers reading.Failed input r = (r .count ≡ 0) × (r .bytes ≡ replicate (recordBytes programEntries) 0)

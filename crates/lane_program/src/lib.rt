@@ -5,8 +5,10 @@ use lane_record::HEADING_BYTES;
 use lane_record::STEP_BYTES;
 use predicate_answer::MAX_EVENTS;
 use predicate_trace::ENTRY_BYTES;
-ghost use Prim.Native.Nat.{_≤_};
-ghost use Rattle.lane_program.specs.Program.{ProgramLends, WritesRecord, Outputs};
+ghost use mathlib.Core.Path.{_≡_};
+ghost use mathlib.Core.Bool.{cond};
+ghost use lib.Dec.{ltb};
+ghost use Rattle.lane_program.specs.Program.{inputBytes, ProgramLends, WritesRecord, Outputs, Answers};
 
 // What the program lends.
 const ROWS: usize = 200;
@@ -22,6 +24,12 @@ pub const RECORD_BYTES: usize = HEADING_BYTES + MAX_EVENTS * EVENT_BYTES + ENTRI
 
 // One byte more than the longest input that is taken, so that a longer one is seen to be longer.
 pub const INPUT_BYTES: usize = lane_library::INPUT_BYTES + 1;
+
+// What came of the input: so many bytes before its end, or as many as there is room for; or a read failed, and nobody knows what would have followed.
+pub enum Reading {
+    Bytes(usize),
+    Failed,
+}
 
 // A record's bytes, and how many they are.
 pub struct ProgramOutput {
@@ -48,5 +56,32 @@ pub fn run_program(input: &[u8]) -> ProgramOutput
     ProgramOutput {
         bytes: bytes,
         count: count,
+    }
+}
+
+// How many of n bytes there is room for.
+fn with_room(n: usize) -> usize
+    ensures { λ r. ⌜ r ≡ cond (ltb n inputBytes) n inputBytes ⌝ }
+{
+    if n < INPUT_BYTES { n } else { INPUT_BYTES }
+}
+
+// What the program writes: after a failed read nothing, since what was read may be the beginning of another image. The input's type sees to it that
+// the program has the room for it.
+pub fn answer(reading: Reading, input: [u8; INPUT_BYTES]) -> ProgramOutput
+    ensures { λ r. ⌜ Answers reading input r ⌝ }
+{
+    match reading {
+        Reading::Bytes(n) => {
+            let count = with_room(n);
+            run_program(&input[..count])
+        }
+        Reading::Failed => {
+            let bytes = [0u8; RECORD_BYTES];
+            ProgramOutput {
+                bytes: bytes,
+                count: 0,
+            }
+        }
     }
 }

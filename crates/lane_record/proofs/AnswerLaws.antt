@@ -35,7 +35,7 @@ few-cases : (e : PredicateTransducerExecution) (w : Bool) → leb (e .«event_co
 few-cases e true p v = leb-true _ _ p
 few-cases e false p v = let h : false ≡ true = rw (p, and-false) at v in let z : _≡_ {A = ℕ} 0 1 = cc in absurd (omega arith)
 
-few-events : (e : PredicateTransducerExecution) → executionValid e ≡ true → e .«event_count» ≤ maxEvents
+pub few-events : (e : PredicateTransducerExecution) → executionValid e ≡ true → e .«event_count» ≤ maxEvents
 few-events e v = few-cases e (leb (e .«event_count») maxEvents) refl v
 
 -- ---- lengths

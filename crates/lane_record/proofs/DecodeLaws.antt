@@ -238,6 +238,19 @@ module _ (bs : List ℕ) (b : AllBytes bs) where
   unfolding decodeRecord
   decode-same x e = same-cases x (eqb (getD bs 0 0) (kindByte refusal)) refl e
 
+-- whatever they are, what they read as keeps the rules
+pub decode-valid : (bs : List ℕ) (x : Record) → decodeRecord bs ≡ some x → valid x ≡ true
+unfolding decodeRecord
+decode-valid bs x e = go (eqb (getD bs 0 0) (kindByte refusal)) e
+  where
+    go : (m : Bool) → cond m (refusedIn bs) (acceptedIn (executionAt bs) bs) ≡ some x → valid x ≡ true
+    go true e =
+        let u = ruled-some (eqb (length bs) (size refusal) && valid (refused (refusalAt bs))) (refused (refusalAt bs)) x e in
+        subst (λ (y : Record). valid y ≡ true) (u .1) (both (eqb (length bs) (size refusal)) (valid (refused (refusalAt bs))) (u .0) .1)
+    go false e =
+        let u = ruled-some (acceptedForm (executionAt bs) bs && valid (acceptedAt (executionAt bs) bs)) (acceptedAt (executionAt bs) bs) x e in
+        subst (λ (y : Record). valid y ≡ true) (u .1) (both (acceptedForm (executionAt bs) bs) (valid (acceptedAt (executionAt bs) bs)) (u .0) .1)
+
 -- and the bytes of a record that keeps the rules read as it
 pub decode-only : (bs : List ℕ) (x : Record) → encode x ≡ bs → valid x ≡ true → FitsRecord x → decodeRecord bs ≡ some x
 decode-only bs x e v f = subst (λ (y : List ℕ). decodeRecord y ≡ some x) e (decode-encode x f v)

@@ -19,14 +19,15 @@ use Rattle.lane_word.specs.declared.InputRange.{InputRange}
 use Rattle.lane_word.specs.Range.{inputCount}
 use Rattle.predicate_semantics.specs.declared.Rv32SymbolLayout.{Rv32SymbolLayout}
 use Rattle.predicate_semantics.specs.Program.{Program}
-use Rattle.predicate_answer.specs.Blank.{maxEvents, noEvents}
+use Rattle.predicate_answer.specs.Blank.{maxEvents, noEvents, lastRefusal}
 use Rattle.predicate_semantics.specs.State.{Result}
 use Rattle.predicate_semantics.specs.Tested.{Tested, passed}
-use Rattle.predicate_answer.specs.Refusal.{Refusal, lastRefusal}
+use Rattle.predicate_answer.specs.Refusal.{Refusal}
 use Rattle.predicate_semantics.specs.Tested as Tested
 use Rattle.predicate_semantics.specs.Lane.{LaneState, Setup, Ended}
 use Rattle.predicate_semantics.specs.RecordRules.{Chain, Completed, Accepted, numbersOver, proper}
-use Rattle.predicate_semantics.specs.Standing.{standing, rangeTest, setup, standingLaneRun}
+use Rattle.predicate_semantics.specs.Standing.{standing}
+use Rattle.predicate_semantics.specs.StandingLanes.{rangeTest, setup, standingLaneRun}
 use Rattle.predicate_trace.specs.Trace.{traceBytes}
 use Rattle.predicate_semantics.proofs.RecordRules.{chosen, ordered, execution-over, refused-proper, takes-step}
 use Rattle.predicate_semantics.proofs.RecordRules as Rules

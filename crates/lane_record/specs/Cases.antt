@@ -1,4 +1,5 @@
--- The reader on both sides of each edge of a range and of its steps (document 02, Three), as one table.
+-- The reader on both sides of each edge of a range and of its steps (document 02, Three), as one table, and the example of document 01.
+use mathlib.Core.Path.{_≡_}
 use mathlib.Core.Bool.{Bool, true, false, not, _&&_}
 use mathlib.Core.Option.{Option, none, some}
 use mathlib.Core.List.{List, [], _∷_}
@@ -87,3 +88,39 @@ brokenHeadings =
     ∷ headed 12 244 (returnStep ∷ []) 250
     ∷ headed 7 1 [] 1
     ∷ []
+
+-- the reader takes all of the first list, and none of the second
+abbrev pub RangesTaken : Type 0
+RangesTaken = allTaken validHeadings ≡ true
+
+abbrev pub RangesBroken : Type 0
+RangesBroken = noneTaken brokenHeadings ≡ true
+
+-- Record: the bytes of the example, an item a line
+abbrev pub exampleBytes : List ℕ
+exampleBytes =
+    0x01 ∷ 0x06 ∷ 0xFA ∷ 0x00 ∷ 0x01 ∷ 0x00 ∷ 0x00 ∷ 0x00 ∷ 0x02 ∷ 0x00 ∷ 0x00 ∷ 0x00 ∷ 0xF4 ∷ 0x01 ∷ 0x00 ∷ 0x00 ∷ 0x04 ∷ 0x00 ∷ 0x00 ∷ 0x00 ∷ 0x00
+    ∷ 0x03 ∷ 0x00 ∷ 0x00 ∷ 0x00 ∷ 0x80 ∷ 0x13 ∷ 0x05 ∷ 0x10 ∷ 0x00 ∷ 0x02 ∷ 0x02 ∷ 0x00 ∷ 0x00 ∷ 0x80
+    ∷ 0x03 ∷ 0x02 ∷ 0x00 ∷ 0x00 ∷ 0x80 ∷ 0x67 ∷ 0x80 ∷ 0x00 ∷ 0x00 ∷ 0x02 ∷ 0xFC ∷ 0xFF ∷ 0x1F ∷ 0x80 ∷ []
+
+-- .. and what they say
+abbrev pub exampleRecord : Record
+exampleRecord =
+    accepted
+    (record {
+      «first_input» = 6;
+      «lane_count» = 250;
+      «return_value» = 1;
+      «symbolic_transitions» = 2;
+      «lane_value_operations» = 500;
+      «sparse_memory_bytes» = 4;
+      «event_count» = 0;
+    })
+    []
+    (record { «program_counter» = 0x80000000; «instruction_word» = 0x00100513; «instruction_bytes» = 2; «next_program_counter» = 0x80000002 }
+    ∷ record { «program_counter» = 0x80000002; «instruction_word» = 0x00008067; «instruction_bytes» = 2; «next_program_counter» = 0x801FFFFC } ∷ [])
+
+-- each of the two is made of the other
+pub record WorkedRecord : Type 0 where
+  pub read : decodeRecord exampleBytes ≡ some exampleRecord
+  pub written : encode exampleRecord ≡ exampleBytes

@@ -5,12 +5,11 @@ use Prim.Native.Nat.{ℕ, _+_, _-_, _*_}
 use lib.Dec.{eqb, leb}
 use lib.ListN.{length}
 use Rattle.riscv32imc.specs.Constants.{maxMemoryBytes, maxSteps}
-use Rattle.lane_word.specs.Word.{lanes}
+use Rattle.lane_word.specs.Range.{mostInputs}
 use Rattle.predicate_trace.specs.declared.PredicateControlStep.{PredicateControlStep}
 use Rattle.predicate_answer.specs.declared.PredicateTransducerExecution.{PredicateTransducerExecution}
 use Rattle.predicate_semantics.specs.Program.{stop}
-use Rattle.predicate_answer.specs.Blank.{maxEvents}
-use Rattle.predicate_answer.specs.Refusal.{lastRefusal, lastRole}
+use Rattle.predicate_answer.specs.Blank.{maxEvents, lastRefusal, lastRole}
 use Rattle.lane_record.specs.declared.RecordRefusal.{RecordRefusal}
 use Rattle.lane_record.specs.Format.{Record, accepted, refused}
 
@@ -28,7 +27,7 @@ maxWrittenBytes = maxMemoryBytes - 1
 
 -- a range of bytes: one input at least, and the last is a byte
 abbrev pub rangeValid : ℕ → ℕ → Bool
-rangeValid first count = leb 1 count && leb (first + count) lanes
+rangeValid first count = leb 1 count && leb (first + count) mostInputs
 
 -- the fewest steps of so many lanes: none where one lane alone is at stop from the first, for two differ there
 abbrev pub fewestSteps : ℕ → ℕ

@@ -11,10 +11,12 @@ use Rattle.lane_word.specs.Word.{lanes}
 use Rattle.predicate_semantics.specs.declared.Rv32SymbolLayout.{Rv32SymbolLayout}
 use Rattle.predicate_semantics.specs.State.{Result}
 use Rattle.predicate_semantics.specs.Tested.{Tested, passed}
-use Rattle.predicate_answer.specs.Refusal.{Refusal, lastRefusal}
+use Rattle.predicate_answer.specs.Refusal.{Refusal}
+use Rattle.predicate_answer.specs.Blank.{lastRefusal}
 use Rattle.predicate_semantics.specs.Tested as Tested
 use Rattle.predicate_semantics.specs.Lane.{LaneState, execution}
-use Rattle.predicate_semantics.specs.Standing.{standing, setup, standingLaneRun}
+use Rattle.predicate_semantics.specs.Standing.{standing}
+use Rattle.predicate_semantics.specs.StandingLanes.{setup, standingLaneRun}
 use Rattle.predicate_trace.specs.Trace.{traceBytes}
 use Rattle.lane_record.specs.declared.RecordRefusal.{RecordRefusal}
 use Rattle.lane_record.specs.declared.RecordOutcome.{RecordOutcome}

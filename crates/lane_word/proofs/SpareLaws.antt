@@ -5,8 +5,8 @@ use Prim.Native.Nat.{ℕ, zero, suc, _+_, _-_, _<_}
 use native.Mathlib.Omega.{arith}
 use lib.ListN.{length, set, replicate, length-append, length-replicate}
 use Rattle.lane_word.specs.declared.InputRange.{InputRange}
-use Rattle.lane_word.specs.Word.{inputs, lanes}
-use Rattle.lane_word.specs.Range.{inputCount}
+use Rattle.lane_word.specs.Word.{lanes}
+use Rattle.lane_word.specs.Range.{inputs, inputCount}
 use Rattle.lane_word.specs.Spare.{laneInputs}
 use Rattle.lane_word.proofs.Tab.{length-inputs}
 

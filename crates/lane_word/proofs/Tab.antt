@@ -6,7 +6,8 @@ use native.Mathlib.Omega.{arith}
 use borrow.Author.Count.{below-more}
 use lib.ListN.{length, getD, set, length-set, length-map}
 use lib.Seq.{getD-set-same, getD-set-other, ext-getD}
-use Rattle.lane_word.specs.Word.{zip, inputs}
+use Rattle.lane_word.specs.Word.{zip}
+use Rattle.lane_word.specs.Range.{inputs}
 
 -- the first k elements are done
 pub record Tab (g : ℕ → ℕ) (n : ℕ) (out : List ℕ) (k : ℕ) : Type 0 where

@@ -1,16 +1,17 @@
 -- Lane words (document 01, "Lane word"), over any number of lanes.
 use mathlib.Core.Bool.{Bool, true, false, cond, _&&_}
 use mathlib.Core.List.{List, [], _∷_, map}
-use Prim.Native.Nat.{ℕ, zero, suc}
+use Prim.Native.Nat.{ℕ}
 use lib.Dec.{eqb}
 use lib.ListN.{getD, replicate}
 use Rattle.lane_word.specs.declared.LaneWord.{LaneWord}
 use Rattle.lane_word.specs.declared.Uniform.{Uniform}
 use Rattle.lane_word.specs.declared.Uniform.the-variants.{Value, Unknown, Uneven}
+use Rattle.lane_word.specs.Range.{mostInputs}
 
--- how many a word of the code has: one for every byte
+-- how many a word of the code has: one for every input that there can be
 abbrev pub lanes : ℕ
-lanes = 256
+lanes = mostInputs
 
 -- a word of which nothing is known, one value in every lane, and each lane its own input
 unfoldable pub unknown : ℕ → LaneWord
@@ -46,8 +47,3 @@ uniformOf w =
     cond (w .known)
     (cond (every (getD (w .values) 0 0) (w .values)) (Value (getD (w .values) 0 0)) Uneven)
     Unknown
-
--- as many inputs, one after another
-unfoldable pub inputs : ℕ → ℕ → List ℕ
-inputs first zero = []
-inputs first (suc count) = first ∷ inputs (suc first) count

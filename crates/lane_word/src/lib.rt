@@ -124,9 +124,7 @@ pub fn told_by(operation: Binary, left: Told, right: Told) -> Told
 }
 
 impl InputRange {
-    // The first byte that names no channel of six, and the last byte.
-    pub const FIRST_INVALID: u8 = 6;
-
+    // The last byte.
     pub const LAST_INPUT: u8 = 255;
 
     // The bytes that name no channel.
@@ -134,7 +132,7 @@ impl InputRange {
         ensures { λ r. ⌜ r ≡ invalidChannels ⌝ }
     {
         InputRange {
-            first: InputRange::FIRST_INVALID,
+            first: LaneWord::FIRST_INPUT,
             last: InputRange::LAST_INPUT,
         }
     }
@@ -151,6 +149,9 @@ impl InputRange {
 }
 
 impl LaneWord {
+    // The first byte that names no channel of six.
+    pub const FIRST_INPUT: u8 = 6;
+
     // One for every byte.
     pub const LANES: usize = 256;
 

@@ -1,4 +1,4 @@
--- How many events a run may leave, and the zeros that stand where a result has nothing.
+-- What an answer holds at most, and the zeros that stand where it has nothing.
 use mathlib.Core.List.{List}
 use Prim.Native.Nat.{ℕ}
 use lib.ListN.{replicate}
@@ -8,6 +8,13 @@ use Rattle.predicate_answer.specs.declared.PredicateTransducerExecution.
 -- the most events that a run may leave
 abbrev pub maxEvents : ℕ
 maxEvents = 32
+
+-- the last of the numbers that a record holds, and of the roles; both begin at 1
+abbrev pub lastRefusal : ℕ
+lastRefusal = 14
+
+abbrev pub lastRole : ℕ
+lastRole = 10
 
 abbrev pub noExecution : PredicateTransducerExecution
 noExecution =

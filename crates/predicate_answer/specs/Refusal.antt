@@ -5,13 +5,6 @@ use Rattle.predicate_answer.specs.declared.Role.the-variants as role
 use Rattle.predicate_answer.specs.declared.Rv32Error.{Rv32Error}
 use Rattle.predicate_answer.specs.declared.Rv32Error.the-variants as error
 
--- the last of the numbers that a record holds, and of the roles; both begin at 1
-abbrev pub lastRefusal : ℕ
-lastRefusal = 14
-
-abbrev pub lastRole : ℕ
-lastRole = 10
-
 -- a number, and beside 6 and 7 a role; beside the others 0
 pub record Refusal : Type 0 where
   pub number : ℕ

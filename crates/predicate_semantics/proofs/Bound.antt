@@ -17,7 +17,8 @@ use Rattle.predicate_semantics.specs.Program.{Program, sized, inMemory, 
 use Rattle.predicate_semantics.specs.State.{sets, assign, advanced, apply}
 use Rattle.predicate_semantics.specs.Tested.{passed, refuse, require, _>>=_}
 use Rattle.predicate_semantics.specs.Lane.{LaneState, Setup, Ended, on, laneCount, attempt, step, run, startTests, begin, start, laneRun}
-use Rattle.predicate_semantics.specs.Standing.{standing, rangeTest, setup, standingLaneRun}
+use Rattle.predicate_semantics.specs.Standing.{standing}
+use Rattle.predicate_semantics.specs.StandingLanes.{rangeTest, setup, standingLaneRun}
 use Rattle.predicate_semantics.specs.Cases.{symbols, refuses, meets, holds}
 use Rattle.predicate_semantics.specs.Bound.{RefusedAtBound, StepBound}
 use Rattle.predicate_semantics.proofs.Laws.{run-out, run-next}

@@ -5,6 +5,7 @@ use Rattle.riscv_decode.specs.Listing as Listing
 use Rattle.riscv_decode.specs.Rows as Rows
 use Rattle.riscv_decode.specs.Decode as Decode
 use Rattle.lane_word.specs.Word as Word
+use Rattle.lane_word.specs.Range as Range
 use Rattle.predicate_semantics.specs.Choice as Choice
 use Rattle.predicate_action.specs.Meaning as Meaning
 use Rattle.predicate_semantics.specs.Program as Program
@@ -14,6 +15,7 @@ use Rattle.predicate_semantics.specs.Tested as Tested
 use Rattle.predicate_semantics.specs.Lane as Lane
 use Rattle.predicate_semantics.specs.Scalar as Scalar
 use Rattle.predicate_semantics.specs.Standing as Standing
+use Rattle.predicate_semantics.specs.StandingLanes as StandingLanes
 
 unfoldable pub expansion : Unit {0}
 unfolding Bits.signExtend Expansion.expand Expansion.quadrant0 Expansion.quadrant1 Expansion.place Expansion.cArithmetic Expansion.cOperations Expansion.quadrant2 Expansion.cRegisters
@@ -24,7 +26,7 @@ unfolding Bits.signExtend Listing.listing Listing.operation Listing.fixed Rows.m
 decoding = tt
 
 unfoldable pub words : Unit {0}
-unfolding Word.unknown Word.constant Word.domain Word.zip Word.unary Word.binary Word.every Word.uniformOf Word.inputs
+unfolding Word.unknown Word.constant Word.domain Word.zip Word.unary Word.binary Word.every Word.uniformOf Range.inputs
 words = tt
 
 unfoldable pub running : Unit {0}
@@ -36,5 +38,5 @@ unfolding Scalar._>>=_ Scalar.require Scalar.put Scalar.read Scalar.write Scalar
 scalar = tt
 
 unfoldable pub standing : Unit {0}
-unfolding Standing.expandedWord Standing.decodedOperation Standing.standingCore Standing.standing Standing.rangeTest Standing.setup Standing.standingLaneRun Standing.standingScalarRun
+unfolding Standing.expandedWord Standing.decodedOperation Standing.standingCore Standing.standing StandingLanes.rangeTest StandingLanes.setup StandingLanes.standingLaneRun Standing.standingScalarRun
 standing = tt

@@ -7,14 +7,14 @@ use native.Mathlib.Omega.{arith}
 use lib.Dec.{eqb}
 use lib.ListN.{getElem?}
 use Rattle.riscv32imc.specs.Constants.{maxSteps}
-use Rattle.lane_word.specs.Word.{inputs}
-use Rattle.lane_word.specs.Range.{inputCount}
+use Rattle.lane_word.specs.Range.{inputs, inputCount}
 use Rattle.predicate_semantics.specs.Program.{Program, stop}
 use Rattle.predicate_semantics.specs.Choice.{choose}
 use Rattle.predicate_semantics.specs.Tested.{Tested, passed, refused, ifPassed}
 use Rattle.predicate_semantics.specs.Lane.{LaneState, Setup, on, laneCount, memoryOf, step, run, after, begin, start, reached, laneRun}
 use Rattle.predicate_semantics.specs.Scalar.{ScalarState}
-use Rattle.predicate_semantics.specs.Standing.{setup, standing, standingLaneRun, standingScalarRun}
+use Rattle.predicate_semantics.specs.Standing.{standing, standingScalarRun}
+use Rattle.predicate_semantics.specs.StandingLanes.{setup, standingLaneRun}
 use Rattle.predicate_semantics.specs.Guarantee.{SameAsLane, PrefixGuarantee, CompletedGuarantee, AcceptanceGuarantee, Guarantee}
 use Rattle.predicate_semantics.proofs.Sim.{answered}
 use Rattle.predicate_semantics.proofs.Laws.{run-stop, run-out, run-next, run-refused, step-steps}

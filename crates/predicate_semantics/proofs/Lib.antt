@@ -19,6 +19,7 @@ pub mod Limits
 pub mod Always
 pub mod Written
 pub mod RecordRules
+pub mod Lent
 pub mod ExpandedWords
 pub mod Reached
 pub mod TraceFits

@@ -7,7 +7,8 @@ use native.Mathlib.Omega.{arith}
 use lib.Dec.{T, eqb, eqb→eq}
 use lib.ListN.{getD, length, replicate, getD-replicate, length-append, List·getD-append}
 use borrow.Author.Tests.{eq-eqb}
-use Rattle.lane_word.specs.Word.{zip, every, inputs}
+use Rattle.lane_word.specs.Word.{zip, every}
+use Rattle.lane_word.specs.Range.{inputs}
 use Rattle.lane_word.proofs.Tab.{getD-map, getD-zip, length-inputs, getD-inputs}
 use Rattle.predicate_semantics.proofs.Lists.{both-left, both-right}
 

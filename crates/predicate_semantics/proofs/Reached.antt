@@ -1,5 +1,5 @@
 -- The states that a lane run reaches: what the proof of the run's loop cites.
-use mathlib.Core.Path.{_≡_, refl, sym, _∙_, ap}
+use mathlib.Core.Path.{_≡_, refl, _∙_, ap}
 use mathlib.Core.Bool.{Bool, true, false}
 use mathlib.Core.Option.{Option, none, some, Option·none-ne-some}
 use Prim.Native.Nat.{ℕ, zero, suc, _+_}
@@ -8,10 +8,8 @@ use lib.Dec.{eqb}
 use Rattle.predicate_semantics.specs.Choice.{choose}
 use Rattle.predicate_semantics.specs.Program.{Program, stop}
 use Rattle.predicate_semantics.specs.Tested.{Tested, passed, refused, ifPassed}
-use Rattle.predicate_semantics.specs.Lane.{LaneState, Setup, step, run, after, begin, start, reached}
-use Rattle.predicate_semantics.specs.Kept.{Kept}
+use Rattle.predicate_semantics.specs.Lane.{LaneState, Setup, step, run, after}
 use Rattle.predicate_semantics.proofs.Laws.{run-next, step-steps}
-use Rattle.predicate_semantics.proofs.RecordRules.{kept-step, kept-start}
 
 -- an answer that waits for a test came from a value that passed it
 from-passed : {A B : Type 0} {b : B} (m : Tested A) {f : A → Option B} → ifPassed m f ≡ some b → (a : A) × (m ≡ passed a) × (f a ≡ some b)

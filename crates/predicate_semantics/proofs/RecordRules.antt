@@ -16,9 +16,9 @@ use Rattle.riscv_decode.specs.declared.Fetched.{Fetched}
 use Rattle.riscv_decode.specs.declared.Operation.{Operation}
 use Rattle.lane_word.specs.declared.LaneWord.{LaneWord}
 use Rattle.lane_word.specs.declared.Uniform.the-variants.{Value, Unknown, Uneven}
-use Rattle.lane_word.specs.Word.{constant, domain, zip, unary, binary, every, uniformOf, inputs}
+use Rattle.lane_word.specs.Word.{constant, domain, zip, unary, binary, every, uniformOf}
+use Rattle.lane_word.specs.Range.{inputs, inputCount}
 use Rattle.lane_word.specs.declared.InputRange.{InputRange}
-use Rattle.lane_word.specs.Range.{inputCount}
 use Rattle.lane_word.proofs.Tab.{length-inputs, getD-inputs}
 use Rattle.predicate_action.specs.declared.Action.{Action}
 use Rattle.predicate_action.specs.declared.Action.the-variants.{Nothing, Literal, Compute, ComputeImmediate, Jump, JumpTo, Branch, Load, Store}
@@ -35,7 +35,8 @@ use Rattle.predicate_semantics.specs.Memory.{Written, LaneBytes, put, re
 use Rattle.predicate_semantics.specs.Tested.{Tested, passed, refused, refuse, require, _>>=_}
 use Rattle.predicate_answer.specs.Refusal.{Refusal}
 use Rattle.predicate_semantics.specs.Lane.{LaneState, Setup, Ended, on, inside, laneCount, memoryOf, agreedAs, agreed, reg, access, accessAgreed, roomFor, decodeWord, expandHalfword, fetchFour, fetch, eventAt, execute, attempt, step, events, finishEvents, finish, run, begin, start, laneRun, laneOperations, writtenBytes, execution}
-use Rattle.predicate_semantics.specs.Standing.{standingCore, standing, rangeTest, setup, standingLaneRun}
+use Rattle.predicate_semantics.specs.Standing.{standingCore, standing}
+use Rattle.predicate_semantics.specs.StandingLanes.{rangeTest, setup, standingLaneRun}
 use Rattle.predicate_semantics.specs.Order.{StartOrder}
 use Rattle.predicate_semantics.specs.Kept.{Distinct, Sized, Stored, Traced, Kept}
 use Rattle.predicate_semantics.specs.RecordRules.{Chain, Words, ExpandsToWords, Completed, Accepted, numbersOver, TakesStep, proper}

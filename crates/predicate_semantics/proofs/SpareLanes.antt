@@ -14,7 +14,7 @@ use Rattle.predicate_semantics.specs.declared.Rv32SymbolLayout.{Rv32Symb
 use Rattle.predicate_semantics.specs.Program.{Program, sized, symbolsPlaced}
 use Rattle.predicate_semantics.specs.Tested.{Tested, passed, refused, refuse, require, _>>=_}
 use Rattle.predicate_semantics.specs.Lane.{Setup, on, begin, startTests, start, laneRun}
-use Rattle.predicate_semantics.specs.Standing.{rangeTest, setup}
+use Rattle.predicate_semantics.specs.StandingLanes.{rangeTest, setup}
 use Rattle.predicate_semantics.proofs.Always.{no-pass}
 use Rattle.predicate_semantics.proofs.RecordRules.{four, ordered}
 use Rattle.predicate_semantics.proofs.Places.{spots-cover, pick-spots}

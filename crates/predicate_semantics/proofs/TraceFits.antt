@@ -9,7 +9,8 @@ use Rattle.lane_word.specs.declared.InputRange.{InputRange}
 use Rattle.predicate_trace.specs.declared.PredicateControlStep.{PredicateControlStep}
 use Rattle.predicate_semantics.specs.declared.Rv32SymbolLayout.{Rv32SymbolLayout}
 use Rattle.predicate_semantics.specs.RecordRules.{Chain, Words, Completed}
-use Rattle.predicate_semantics.specs.Standing.{standing, setup, standingLaneRun}
+use Rattle.predicate_semantics.specs.Standing.{standing}
+use Rattle.predicate_semantics.specs.StandingLanes.{setup, standingLaneRun}
 use Rattle.predicate_trace.specs.Trace.{stepWidths, stepValues}
 use Rattle.predicate_semantics.proofs.RecordRules.{completed}
 use Rattle.predicate_semantics.proofs.ExpandedWords.{standing-expands-to-words}

@@ -14,8 +14,9 @@ use Rattle.predicate_semantics.specs.declared.Rv32SymbolLayout.{Rv32Symb
 use Rattle.predicate_semantics.specs.Program.{stop}
 use Rattle.predicate_semantics.specs.State.{Result}
 use Rattle.predicate_semantics.specs.Tested.{Tested, passed, refused}
-use Rattle.predicate_semantics.specs.Lane.{Ended}
-use Rattle.predicate_semantics.specs.Standing.{standingLaneRun, standingScalarRun}
+use Rattle.predicate_semantics.specs.Lane.{Ended, execution}
+use Rattle.predicate_semantics.specs.Standing.{standing, standingScalarRun}
+use Rattle.predicate_semantics.specs.StandingLanes.{setup, standingLaneRun}
 
 -- what a run gives
 pub data Outcome : Type 0 where
@@ -144,6 +145,10 @@ cases =
     ∷ ranging 255 255 (plain (half 0x8082) (accepts 255 1))
     ∷ []
 
+-- each of its cases does
+abbrev pub CasesHold : Type 0
+CasesHold = allHold cases ≡ true
+
 -- the image that the lanes refuse as unknown: each scalar run of it answers 0
 abbrev pub ScalarRunsGiveZero : Type 0
 ScalarRunsGiveZero =
@@ -161,11 +166,7 @@ controlStep pc word bytes next = record {
   «next_program_counter» = next;
 }
 
--- Record: the example of the program, 05 45 82 80; its trace holds the words after expansion
-unfoldable pub example : Ended
-example = standingLaneRun return1 (symbols imageBase) invalidChannels 200 2048
-
--- .. its result
+-- Record: the result of the program's example, 05 45 82 80; its trace holds the words after expansion
 unfoldable pub exampleResult : Result
 exampleResult = record {
   returnValue = 1;
@@ -201,9 +202,6 @@ oneEvent =
     ++ half 0x4605 ++ word 0x00C5A023
     ++ return1
 
-unfoldable pub oneEventRun : Ended
-oneEventRun = standingLaneRun oneEvent (symbols imageBase) invalidChannels 200 2048
-
 -- .. its result
 unfoldable pub oneEventResult : Result
 oneEventResult = record {
@@ -237,13 +235,11 @@ oneEventExecution = record {
   «event_count» = 1;
 }
 
--- 7 to 7 at stop: its numbers
-unfoldable pub oneInput : Ended
-oneInput = standingLaneRun return1 (symbols stop) (record { first = 7; last = 7 }) 4 0
-
+-- one lane that is at stop from the first, 7 to 7: its result
 unfoldable pub oneInputResult : Result
 oneInputResult = record { returnValue = 7; steps = 0; trace = []; events = [] }
 
+-- .. its numbers
 unfoldable pub oneInputExecution : PredicateTransducerExecution
 oneInputExecution = record {
   «first_input» = 7;
@@ -254,3 +250,14 @@ oneInputExecution = record {
   «sparse_memory_bytes» = 4;
   «event_count» = 0;
 }
+
+-- the run of an image ends in this result, with these numbers
+pub record EndsWith (image : List ℕ) (symbols : Rv32SymbolLayout) (range : InputRange) (rows entries : ℕ) (r : Result) (e : PredicateTransducerExecution) : Type 0 where
+  pub result : (standingLaneRun image symbols range rows entries) .answer ≡ passed r
+  pub numbers : execution (standing image symbols) (setup range rows entries) ((standingLaneRun image symbols range rows entries) .state) r ≡ e
+
+-- the three runs above, whole
+pub record WorkedRuns : Type 0 where
+  pub example : EndsWith return1 (symbols imageBase) invalidChannels 200 2048 exampleResult exampleExecution
+  pub one-event : EndsWith oneEvent (symbols imageBase) invalidChannels 200 2048 oneEventResult oneEventExecution
+  pub one-input : EndsWith return1 (symbols stop) (record { first = 7; last = 7 }) 4 0 oneInputResult oneInputExecution

@@ -15,7 +15,8 @@ use Rattle.predicate_semantics.specs.Scalar.{ScalarState, scalarRun}
 use Rattle.predicate_semantics.specs.Scalar as Scalar
 use Rattle.predicate_semantics.specs.Lane.{LaneState, Setup, laneRun}
 use Rattle.predicate_semantics.specs.Lane as Lane
-use Rattle.predicate_semantics.specs.Standing.{standingLaneRun, standingScalarRun}
+use Rattle.predicate_semantics.specs.Standing.{standingScalarRun}
+use Rattle.predicate_semantics.specs.StandingLanes.{standingLaneRun}
 
 -- if the lane word is known, its lane k holds v
 abbrev pub KnownLane : ℕ → LaneWord → ℕ → Type 0

@@ -7,11 +7,13 @@ pub mod Tested
 pub mod Memory
 pub mod Lane
 pub mod Standing
+pub mod StandingLanes
 pub mod Guarantee
 pub mod Cases
 pub mod Bound
+pub mod Lent
 pub mod Order
 pub mod Hints
--- For proofs: rules that hold of every run, which the record's proofs cite, and what every step keeps, which the loop's do.
 pub mod RecordRules
+-- For proofs: what every step keeps, which the loop's cite.
 pub mod Kept

@@ -14,12 +14,12 @@ use Rattle.predicate_trace.specs.declared.PredicateControlStep.{PredicateContro
 use Rattle.predicate_answer.specs.declared.PredicateTransducerExecution.{PredicateTransducerExecution}
 use Rattle.predicate_semantics.specs.declared.Rv32SymbolLayout.{Rv32SymbolLayout}
 use Rattle.predicate_semantics.specs.Program.{Core, Program, stop}
-use Rattle.predicate_answer.specs.Blank.{maxEvents}
+use Rattle.predicate_answer.specs.Blank.{maxEvents, lastRefusal, lastRole}
 use Rattle.predicate_semantics.specs.State.{Result}
 use Rattle.predicate_semantics.specs.Tested.{passed}
-use Rattle.predicate_answer.specs.Refusal.{Refusal, lastRefusal, lastRole}
+use Rattle.predicate_answer.specs.Refusal.{Refusal}
 use Rattle.predicate_semantics.specs.Lane.{LaneState, Setup}
-use Rattle.predicate_semantics.specs.Standing.{standingLaneRun}
+use Rattle.predicate_semantics.specs.StandingLanes.{standingLaneRun}
 
 -- a trace that leads from one address to another, each step from where the step before it led, in instructions of 2 or 4 bytes
 abbrev pub Chain : ℕ → List PredicateControlStep → ℕ → Type 0

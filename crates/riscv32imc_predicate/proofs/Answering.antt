@@ -16,7 +16,8 @@ use Rattle.predicate_semantics.specs.declared.Rv32SymbolLayout.{Rv32SymbolLayou
 use Rattle.predicate_semantics.specs.State.{Result}
 use Rattle.predicate_semantics.specs.Tested.{Tested, passed, refused}
 use Rattle.predicate_semantics.specs.Lane.{LaneState, Ended, execution}
-use Rattle.predicate_semantics.specs.Standing.{standingCore, standing, setup, standingLaneRun}
+use Rattle.predicate_semantics.specs.Standing.{standingCore, standing}
+use Rattle.predicate_semantics.specs.StandingLanes.{setup, standingLaneRun}
 use Rattle.predicate_semantics.specs.RecordRules.{Accepted}
 use Rattle.predicate_semantics.proofs.Guarantee.{guarantee}
 use Rattle.predicate_semantics.proofs.RecordRules as Rules

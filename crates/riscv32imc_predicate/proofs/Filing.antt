@@ -12,8 +12,8 @@ use Rattle.lane_word.specs.declared.LaneWord.{LaneWord}
 use Rattle.lane_word.specs.declared.InputRange.{InputRange}
 use Rattle.lane_word.specs.declared.Told.{Told}
 use Rattle.lane_word.specs.declared.Told.the-variants.{Value, Lanes}
-use Rattle.lane_word.specs.Word.{constant, unknown, domain, inputs, lanes}
-use Rattle.lane_word.specs.Range.{inputCount}
+use Rattle.lane_word.specs.Word.{constant, unknown, domain, lanes}
+use Rattle.lane_word.specs.Range.{inputs, inputCount}
 use Rattle.lane_word.specs.Spare.{laneInputs}
 use Rattle.lane_word.specs.Told.{wordOf}
 use Rattle.lane_word.proofs.ToldLaws.{constant-size}

@@ -25,7 +25,7 @@ use Rattle.predicate_semantics.specs.Program.{stop, stopWord, eventStride, memo
 use Rattle.predicate_semantics.specs.State.{Result}
 use Rattle.predicate_semantics.specs.Tested.{Tested, passed, refused, _>>=_, refuse, require}
 use Rattle.predicate_semantics.specs.Lane.{LaneState, Ended, laneCount, on, begin, startTests, start, laneRun, finish}
-use Rattle.predicate_semantics.specs.Standing.{rangeTest}
+use Rattle.predicate_semantics.specs.StandingLanes.{rangeTest}
 use Rattle.predicate_semantics.specs.RecordRules.{numbersOver}
 use Rattle.predicate_semantics.specs.Kept.{Kept}
 use Rattle.predicate_semantics.proofs.Always.{no-pass}

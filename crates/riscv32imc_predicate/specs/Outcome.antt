@@ -12,7 +12,8 @@ use Rattle.predicate_semantics.specs.declared.Rv32SymbolLayout.{Rv32SymbolLayou
 use Rattle.predicate_semantics.specs.State.{Result}
 use Rattle.predicate_semantics.specs.Tested.{Tested, passed, refused}
 use Rattle.predicate_semantics.specs.Lane.{LaneState, Ended, execution}
-use Rattle.predicate_semantics.specs.Standing.{standing, setup, standingLaneRun, standingScalarRun}
+use Rattle.predicate_semantics.specs.Standing.{standing, standingScalarRun}
+use Rattle.predicate_semantics.specs.StandingLanes.{setup, standingLaneRun}
 use Rattle.predicate_answer.specs.Blank.{noExecution, noEvents}
 use Rattle.predicate_trace.specs.Trace.{entryCount, traceBytes, stepsAt}
 use Rattle.lane_memory.specs.LentRows.{rowCount, cleared}

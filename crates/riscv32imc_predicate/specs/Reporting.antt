@@ -14,7 +14,7 @@ use Rattle.predicate_semantics.specs.declared.Rv32SymbolLayout.{Rv32SymbolLayou
 use Rattle.predicate_semantics.specs.State.{Result}
 use Rattle.predicate_semantics.specs.Tested.{Tested, passed, refused}
 use Rattle.predicate_semantics.specs.Lane.{LaneState, Ended, finish, laneRun}
-use Rattle.predicate_semantics.specs.Standing.{rangeTest}
+use Rattle.predicate_semantics.specs.StandingLanes.{rangeTest}
 use Rattle.predicate_semantics.specs.RecordRules.{numbersOver}
 use Rattle.predicate_trace.specs.Trace.{entryCount, putEntries}
 use Rattle.lane_memory.specs.Rows.{rowCount, cleared}

@@ -2,6 +2,7 @@
 pub mod Bits
 pub mod Arithmetic
 pub mod Value
+pub mod Corners
 pub mod Halves
 pub mod Divisor
 -- For the code's proofs:

@@ -2,4 +2,5 @@
 pub mod Right
 pub mod Table
 pub mod Promise
+pub mod Promises
 pub mod Possible

@@ -1,4 +1,4 @@
--- What the wrong programs do (document 01, Conditions of acceptance), over what is seen of a program at each input.
+-- What the wrong programs do (document 01, Conditions of acceptance, and four more), over what is seen of a program at each input.
 use mathlib.Core.Path.{_≡_}
 use mathlib.Core.Bool.{Bool, true, false, _&&_, _||_}
 use mathlib.Core.Logic.{_⊎_}
@@ -8,22 +8,24 @@ use Prim.Native.Nat.{ℕ, _-_, _≤_}
 use lib.Dec.{eqb}
 use lib.ListN.{length, take, drop, replicate}
 use Rattle.riscv32imc.specs.Constants.{imageBase, maxSteps}
-use Rattle.lane_word.specs.Range.{invalidChannels, inputCount}
+use Rattle.lane_word.specs.Range.{inputCount}
 use Rattle.predicate_trace.specs.declared.PredicateControlStep.{PredicateControlStep}
+use Rattle.predicate_answer.specs.declared.CompiledMmioEvent.{CompiledMmioEvent}
 use Rattle.predicate_answer.specs.declared.PredicateTransducerExecution.{PredicateTransducerExecution}
 use Rattle.predicate_semantics.specs.State.{Result}
 use Rattle.predicate_semantics.specs.Tested.{passed}
 use Rattle.predicate_semantics.specs.Lane.{Ended, laneRun}
-use Rattle.predicate_semantics.specs.Standing.{standing}
+use Rattle.predicate_semantics.specs.Standing.{standing, standingScalarRun}
 use Rattle.predicate_answer.specs.Blank.{noExecution}
 use Rattle.lane_memory.specs.LentRows.{rowCount}
 use Rattle.lane_record.specs.Format.{Record, accepted, refused}
 use Rattle.predicate_trace.specs.Trace.{entryCount}
 use Rattle.wrong_programs.specs.Inputs.{Input, imageOf, symbolsOf}
 
--- what is seen of a program at an input: the record, if there is one, and the lent trace afterwards
+-- what is seen of a program at an input: the record, if there is one, and the lent rows and trace afterwards
 pub record Observed : Type 0 where
   pub recorded : Option Record
+  pub rows : List ℕ
   pub trace : List ℕ
 
 -- there is an accepted record
@@ -37,6 +39,12 @@ abbrev pub numbers : Option Record → PredicateTransducerExecution
 numbers none = noExecution
 numbers (some (accepted e es ss)) = e
 numbers (some (refused f)) = noExecution
+
+-- its events
+abbrev pub events : Option Record → List CompiledMmioEvent
+events none = []
+events (some (accepted e es ss)) = es
+events (some (refused f)) = []
 
 -- its steps
 abbrev pub steps : Option Record → List PredicateControlStep
@@ -64,26 +72,38 @@ noSpaceAtOnce (some (refused f)) = (eqb (f .number) 13 || eqb (f .number) 14) &&
 abbrev pub copied : Input → Ended
 copied x =
     laneRun (standing (imageOf x) (symbolsOf x))
-    (record { inputs = replicate (inputCount invalidChannels) (invalidChannels .first); choice = passed tt; rows = rowCount (x .rows); entries = entryCount (x .trace) }) maxSteps
+    (record { inputs = replicate (inputCount (x .range)) (x .range .first); choice = passed tt; rows = rowCount (x .rows); entries = entryCount (x .trace) }) maxSteps
 
 -- the bytes at the entry, as many as an instruction can have
 abbrev pub firstInstruction : Input → List ℕ
 firstInstruction x = take 4 (drop ((symbolsOf x) .entry - imageBase) (imageOf x))
 
--- the same symbols, as long an image, and the same lent memory
+-- the same lent memory
+abbrev pub LentAlike : Input → Input → Type 0
+LentAlike x y = (x .rows ≡ y .rows) × (x .trace ≡ y .trace) × (x .output ≡ y .output)
+
+-- the same symbols and range, as long an image, and the same lent memory
 abbrev pub Alike : Input → Input → Type 0
-Alike x y =
-    (symbolsOf x ≡ symbolsOf y) × (length (x .bytes) ≡ length (y .bytes))
-    × (x .rows ≡ y .rows) × (x .trace ≡ y .trace) × (x .output ≡ y .output)
+Alike x y = (symbolsOf x ≡ symbolsOf y) × (x .range ≡ y .range) × (length (x .bytes) ≡ length (y .bytes)) × LentAlike x y
 
 module _ (program : Input → Observed) where
   -- it accepts there
   abbrev pub AcceptsAt : Input → Type 0
   AcceptsAt x = isAccepted ((program x) .recorded) ≡ true
 
-  -- 1. the first input's run serves for all of them: it accepts what lanes that all hold that input pass
-  abbrev pub CopiesInput6 : Type 0
-  CopiesInput6 = (x : Input) (r : Result) → (copied x) .answer ≡ passed r → AcceptsAt x
+  -- .. and everywhere
+  abbrev pub AcceptsAll : Type 0
+  AcceptsAll = (x : Input) → AcceptsAt x
+
+  -- its accepted records carry the range
+  abbrev pub NamesRange : Type 0
+  NamesRange =
+      (x : Input) → AcceptsAt x
+      → ((numbers ((program x) .recorded)) .«first_input» ≡ x .range .first) × ((numbers ((program x) .recorded)) .«lane_count» ≡ inputCount (x .range))
+
+  -- 1. the first input's run serves for all of them (of 6 to 255, a run of input 6 copied): it accepts what lanes that all hold that input pass
+  abbrev pub CopiesFirstInput : Type 0
+  CopiesFirstInput = (x : Input) (r : Result) → (copied x) .answer ≡ passed r → AcceptsAt x
 
   -- 2. the steps after the first are made up: nothing of the image past its first instruction tells in them
   abbrev pub InventsLaterTrace : Type 0
@@ -115,16 +135,44 @@ module _ (program : Input → Observed) where
   abbrev pub LeavesEmpty : Type 0
   LeavesEmpty = (x : Input) → ((program x) .trace ≡ x .trace) ⊎ (numbers ((program x) .recorded) ≡ noExecution)
 
+  -- 8. the events are made up: runs that agree in return value and steps agree in the events, whatever they raise
+  abbrev pub InventsEvents : Type 0
+  InventsEvents =
+      (x y : Input) → Alike x y
+      → (numbers ((program x) .recorded)) .«return_value» ≡ (numbers ((program y) .recorded)) .«return_value»
+      → (numbers ((program x) .recorded)) .«symbolic_transitions» ≡ (numbers ((program y) .recorded)) .«symbolic_transitions»
+      → events ((program x) .recorded) ≡ events ((program y) .recorded)
+
+  -- 9. what is not set counts as 0: it accepts where the scalar runs with zeros in the other registers answer alike
+  abbrev pub TakesUnsetAsZero : Type 0
+  TakesUnsetAsZero =
+      (x : Input) (r : Result)
+      → ((i : ℕ) → x .range .first ≤ i → i ≤ x .range .last → standingScalarRun (imageOf x) (symbolsOf x) i (λ _. 0) ≡ some r) → AcceptsAt x
+
+  -- 10. the lent rows stay as they were
+  abbrev pub LeavesRows : Type 0
+  LeavesRows = (x : Input) → (program x) .rows ≡ x .rows
+
+  -- 11. the range is not looked at: what differs in it alone has the same return value
+  abbrev pub IgnoresRange : Type 0
+  IgnoresRange =
+      (x y : Input) → x .bytes ≡ y .bytes → LentAlike x y
+      → (numbers ((program x) .recorded)) .«return_value» ≡ (numbers ((program y) .recorded)) .«return_value»
+
 -- some program behaves so
 abbrev pub Possible : ((Input → Observed) → Type 0) → Type 0
 Possible Behaves = (program : Input → Observed) × Behaves program
 
--- none of the seven behaviours is empty
+-- none of these behaviours is empty, with what the refutations ask beside them
 pub record AllPossible : Type 0 where
-  pub input-6-copied : Possible CopiesInput6
-  pub trace-invented : Possible InventsLaterTrace
+  pub first-input-copied : Possible (λ p. CopiesFirstInput p × NamesRange p)
+  pub trace-invented : Possible (λ p. InventsLaterTrace p × AcceptsAll p)
   pub written-bytes-invented : Possible InventsWrittenBytes
   pub space-left : Possible RefusesWithSpaceLeft
-  pub unchanging : Possible NeverChanges
+  pub unchanging : Possible (λ p. NeverChanges p × AcceptsAll p)
   pub each-image-refused : Possible RefusesEachImage
   pub left-empty : Possible LeavesEmpty
+  pub events-invented : Possible (λ p. InventsEvents p × AcceptsAll p)
+  pub unset-as-zero : Possible TakesUnsetAsZero
+  pub rows-left : Possible LeavesRows
+  pub range-ignored : Possible IgnoresRange

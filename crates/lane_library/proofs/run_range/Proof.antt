@@ -6,7 +6,8 @@ use denote.Ref.{now}
 use borrow.Author.Needs.{needs}
 use borrow.Author.Tests.{le-leb, lt-leb}
 use Rattle.lane_word.specs.Word.{lanes}
-use Rattle.predicate_answer.specs.Refusal.{refusalOf, lastRefusal}
+use Rattle.predicate_answer.specs.Refusal.{refusalOf}
+use Rattle.predicate_answer.specs.Blank.{lastRefusal}
 use Rattle.lane_library.specs.Outcome.{lent}
 use Rattle.lane_library.proofs.Laws.{range-runs, accepted-recorded, refusal-recorded, unrecorded-runs}
 use Rattle.lane_library.proofs.run_range.Statement.{statement}

@@ -4,6 +4,7 @@ use lib.ListN.{length}
 use borrow.Author.Needs.{needs}
 use Rattle.lane_library.specs.Inputs.{programEntries}
 use Rattle.lane_library.specs.Outcome.{recordBytes}
+use Rattle.lane_program.proofs.Laws.{answer-fits}
 use Rattle.lane_run.proofs.main.Statement.{statement}
 use Rattle.lane_run.proofs.main.Tie as tie
 
@@ -13,12 +14,10 @@ main-spec =
     (tie.spec
     (λ c. search needs)
     (λ c κs. search needs)
-    (λ c. search needs)
-    (λ c. search needs)
     (λ c κs. search needs)
     (λ c. search needs)
     (λ c κs.
-    let p = c .before .before .run-program in
+    let p = c .before .before .answer in
     let l : length (p .result .bytes) ≡ recordBytes programEntries = search needs in
-    omega (arith, p .ensures .fits, l))
+    omega (arith, answer-fits (c .before .before .before .before .read .result) _ (p .result) (p .ensures), l))
     (λ c. search needs))

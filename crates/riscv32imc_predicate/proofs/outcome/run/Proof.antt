@@ -6,7 +6,7 @@ use denote.Ref.{now}
 use borrow.Author.Needs.{needs}
 use Rattle.predicate_answer.specs.Refusal.{refusalOf}
 use Rattle.predicate_semantics.specs.Tested.{Tested, passed}
-use Rattle.predicate_semantics.specs.Standing.{rangeTest}
+use Rattle.predicate_semantics.specs.StandingLanes.{rangeTest}
 use Rattle.lane_word.specs.declared.LaneWord.{LaneWord}
 use Rattle.predicate_semantics.specs.Lane.{begin, startTests}
 use Rattle.predicate_semantics.specs.Program.{stop, stopWord}

@@ -1,6 +1,6 @@
 use borrow.Author.Tests.{le-leb, lt-leb}
 use Rattle.predicate_semantics.specs.Tested.{require, refuse}
-use Rattle.predicate_semantics.specs.Standing.{rangeTest}
+use Rattle.predicate_semantics.specs.StandingLanes.{rangeTest}
 use Rattle.riscv32imc_predicate.proofs.start.range_test.Statement.{statement}
 use Rattle.riscv32imc_predicate.proofs.start.range_test.Tie as tie
 

@@ -1,0 +1,2 @@
+-- Each claim by its law.
+pub mod Held

@@ -1,0 +1,2 @@
+-- To believe: the list of claims.
+pub mod Claims
