@@ -1,1 +1,0 @@
-"""What the commands lane-check, lane-run and record-text share."""
