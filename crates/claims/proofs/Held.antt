@@ -22,9 +22,10 @@ use Rattle.lane_record.proofs.Example.{worked-record, ranges-taken, ranges-brok
 use Rattle.lane_library.proofs.Promise.{record-fits, carries-range}
 use Rattle.lane_exports.proofs.Boundary.{words-back, rewrites, breaks-rules}
 use Rattle.lane_exports.proofs.Loader.{words-promised}
+use Rattle.lane_program.proofs.Laws.{record-written}
 use Rattle.lane_program.proofs.Example.{worked-input}
 use Rattle.wrong_programs.proofs.Table.{run-refuted}
-use Rattle.wrong_programs.proofs.Promises.{run-promise-refuted, input-refuted, image-refuted, range-refuted}
+use Rattle.wrong_programs.proofs.Promises.{run-promise-refuted, library-refuted}
 use Rattle.wrong_programs.proofs.Possible.{all-possible}
 use Rattle.claims.specs.Claims.{Claims}
 
@@ -57,6 +58,7 @@ held = record {
   keeps-rules = keeps-rules;
   carries-range = carries-range;
   record-fits = record-fits;
+  record-written = record-written;
   exact = exact;
   read-back = read-back;
   rewritten = rewritten;
@@ -85,8 +87,6 @@ held = record {
   one-flag = one-flag;
   run-refuted = run-refuted;
   run-promise-refuted = run-promise-refuted;
-  input-refuted = input-refuted;
-  image-refuted = image-refuted;
-  range-refuted = range-refuted;
+  library-refuted = library-refuted;
   all-possible = all-possible;
 }

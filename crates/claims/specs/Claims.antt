@@ -1,9 +1,7 @@
 -- Every claim that docs/GUARANTEE.md lists beside the contracts of functions, by its type: the two are the same list, in the same order.
 use mathlib.Core.Path.{_≡_}
-use mathlib.Core.Logic.{_⊎_}
 use mathlib.Core.List.{List}
 use Prim.Native.Nat.{ℕ}
-use lib.Dec.{T}
 use Rattle.little_endian.specs.Number.{AllBytes}
 use Rattle.rv32_arithmetic.specs.Corners.{Corners}
 use Rattle.rv32_arithmetic.specs.Halves.{LowerHalf}
@@ -11,21 +9,20 @@ use Rattle.rv32_arithmetic.specs.Divisor.{PowersFound, ShiftDivides}
 use Rattle.riscv32imc.specs.Examples.{ExamplesExpand}
 use Rattle.riscv32imc.specs.Hints.{HintsCounted, HintsExpand}
 use Rattle.riscv_decode.specs.Statements.{Counted, StandingApart, OneRow, RowsListed, DecodeListed, LinesAccepted, UpperHalves, SystemRefused}
-use Rattle.lane_word.specs.declared.InputRange.{InputRange}
 use Rattle.lane_word.specs.Flags.{FlagsAgree, OneFlag}
 use Rattle.predicate_answer.specs.Refusal.{Refusal}
-use Rattle.predicate_semantics.specs.declared.Rv32SymbolLayout.{Rv32SymbolLayout}
 use Rattle.predicate_semantics.specs.Program.{Program}
 use Rattle.predicate_semantics.specs.State.{Result}
 use Rattle.predicate_semantics.specs.Tested.{passed, refused}
 use Rattle.predicate_semantics.specs.Lane.{Setup, laneRun}
+use Rattle.predicate_semantics.specs.Call.{Call}
 use Rattle.predicate_semantics.specs.Guarantee.{PrefixGuarantee, CompletedGuarantee, AcceptanceGuarantee, Guarantee}
 use Rattle.predicate_semantics.specs.Cases.{CasesHold, ScalarRunsGiveZero, WorkedRuns}
 use Rattle.predicate_semantics.specs.Bound.{StepBound, LimitEnough, LimitShort, ScalarLimit}
 use Rattle.predicate_semantics.specs.Lent.{MoreRows, MoreEntries, MoreLent, RowsNeeded, EntriesNeeded}
 use Rattle.predicate_semantics.specs.Order.{StartOrder}
 use Rattle.predicate_semantics.specs.Hints.{HintsOnlyAdvance}
-use Rattle.predicate_semantics.specs.RecordRules.{Completed, Accepted, TakesStep, proper}
+use Rattle.predicate_semantics.specs.RecordRules.{Completed, Accepted, TakesStep, ProperRefusal}
 use Rattle.lane_record.specs.Answers.{Exact}
 use Rattle.lane_record.specs.Cases.{WorkedRecord, RangesTaken, RangesBroken}
 use Rattle.lane_record.specs.RoundTrip.{ReadBack, Rewritten}
@@ -33,9 +30,10 @@ use Rattle.lane_record.specs.Runs.{KeepsRules}
 use Rattle.lane_library.specs.Outcome.{RecordFits, CarriesRange}
 use Rattle.lane_exports.specs.Boundary.{BreaksRules, WordsBack, Rewrites}
 use Rattle.lane_exports.specs.Loader.{WordsPromised}
+use Rattle.lane_program.specs.Program.{RecordWritten}
 use Rattle.lane_program.specs.Example.{WorkedInput}
 use Rattle.wrong_programs.specs.Behaviours.{AllPossible}
-use Rattle.wrong_programs.specs.Refuted.{RunRefuted, RunPromiseRefuted, InputRefuted, ImageRefuted, RangeRefuted}
+use Rattle.wrong_programs.specs.Refuted.{RunRefuted, RunPromiseRefuted, LibraryRefuted}
 
 pub record Claims : Type 0 where
   -- demand 3
@@ -63,12 +61,13 @@ pub record Claims : Type 0 where
   -- what every run keeps
   pub completed : (p : Program) (l : Setup) (limit : ℕ) → Completed p l limit ((laneRun p l limit) .state)
   pub accepted : (p : Program) (l : Setup) (limit : ℕ) (r : Result) → (laneRun p l limit) .answer ≡ passed r → Accepted l ((laneRun p l limit) .state) r
-  pub refused-proper : (p : Program) (l : Setup) (limit : ℕ) (r : Refusal) → (laneRun p l limit) .answer ≡ refused r → T (proper r) ⊎ (l .choice ≡ refused r)
+  pub refused-proper : (p : Program) (l : Setup) (limit : ℕ) (r : Refusal) → (laneRun p l limit) .answer ≡ refused r → ProperRefusal l r
   pub takes-step : TakesStep
   -- the record
-  pub keeps-rules : (image : List ℕ) (symbols : Rv32SymbolLayout) (range : InputRange) (rows entries : ℕ) → KeepsRules image symbols range rows entries
+  pub keeps-rules : (c : Call) → KeepsRules c
   pub carries-range : CarriesRange
   pub record-fits : RecordFits
+  pub record-written : RecordWritten
   pub exact : (bytes : List ℕ) → AllBytes bytes → Exact bytes
   pub read-back : ReadBack
   pub rewritten : Rewritten
@@ -99,7 +98,5 @@ pub record Claims : Type 0 where
   -- wrong programs
   pub run-refuted : RunRefuted
   pub run-promise-refuted : RunPromiseRefuted
-  pub input-refuted : InputRefuted
-  pub image-refuted : ImageRefuted
-  pub range-refuted : RangeRefuted
+  pub library-refuted : LibraryRefuted
   pub all-possible : AllPossible

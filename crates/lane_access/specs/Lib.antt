@@ -1,5 +1,5 @@
 -- Loads and fetches: for proofs.
--- What the code's answers are in the semantics, memory as it sees it, and the table in force:
+-- What the code's answers are in the semantics, memory as it sees it, and the core in force:
 pub mod Answers
 pub mod Seen
 pub mod InForce

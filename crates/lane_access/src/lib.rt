@@ -6,6 +6,7 @@ ghost use lib.ListN.{length};
 ghost use Rattle.riscv32imc.specs.Constants.{imageBase};
 ghost use Rattle.lane_word.specs.Word.{lanes};
 ghost use Rattle.predicate_semantics.specs.Program.{Core, initial};
+ghost use Rattle.predicate_semantics.specs.Standing.{standingCore};
 ghost use Rattle.predicate_semantics.specs.Memory.{read};
 ghost use Rattle.predicate_semantics.specs.Lane.{agreedAs, agreed, inside, access, accessAgreed, decodeWord, expandHalfword, fetch};
 ghost use Rattle.lane_memory.specs.Rows.{Joined};
@@ -252,7 +253,7 @@ pub fn access_agreed(image: &[u8], rows: &[u8], address: u32, width: u32, role: 
 
 // The operation of a word, with its length.
 fn decoded(word: u32, length: u32) -> Fetching
-    ensures { λ r. ⌜ ((core : Core) (steps : ℕ) → InForce core steps → fetchingOf r ≡ decodeWord core steps word length) ⌝ }
+    ensures { λ r. ⌜ ((core : Core) (steps : ℕ) → InForce standingCore core steps → fetchingOf r ≡ decodeWord core steps word length) ⌝ }
 {
     let known = riscv_decode::decode(word);
     match known {
@@ -273,7 +274,7 @@ enum Spelling {
 
 // A halfword, expanded.
 fn expanded(half: u16) -> Spelling
-    ensures { λ r. ⌜ ((core : Core) (steps : ℕ) → InForce core steps → spellingOf core steps r ≡ expandHalfword core steps half) ⌝ }
+    ensures { λ r. ⌜ ((core : Core) (steps : ℕ) → InForce standingCore core steps → spellingOf core steps r ≡ expandHalfword core steps half) ⌝ }
 {
     let expansion = riscv32imc::decompress(half);
     match expansion {
@@ -328,7 +329,7 @@ fn number_at(image: &[u8], rows: &[u8], pc: u32) -> Encoding
 
 // The word of an instruction: its four bytes, or what its two expand to.
 fn spelled(image: &[u8], rows: &[u8], pc: u32) -> Spelling
-    ensures { λ r. ⌜ ((core : Core) (steps : ℕ) → InForce core steps → spellingOf core steps r ≡ fetch lanes core (seen (now (image .entry)) (now (rows .entry))) steps pc) ⌝ }
+    ensures { λ r. ⌜ ((core : Core) (steps : ℕ) → InForce standingCore core steps → spellingOf core steps r ≡ fetch lanes core (seen (now (image .entry)) (now (rows .entry))) steps pc) ⌝ }
 {
     let encoding = number_at(image, rows, pc);
     match encoding {
@@ -338,9 +339,9 @@ fn spelled(image: &[u8], rows: &[u8], pc: u32) -> Spelling
     }
 }
 
-// Fetch: the instruction's word, then its operation. The table is one for the whole run.
+// Fetch: the instruction's word, then its operation, by the core in force.
 pub fn fetch(image: &[u8], rows: &[u8], pc: u32) -> Fetching
-    ensures { λ r. ⌜ ((core : Core) (steps : ℕ) → InForce core steps → fetchingOf r ≡ fetch lanes core (seen (now (image .entry)) (now (rows .entry))) steps pc) ⌝ }
+    ensures { λ r. ⌜ ((core : Core) (steps : ℕ) → InForce standingCore core steps → fetchingOf r ≡ fetch lanes core (seen (now (image .entry)) (now (rows .entry))) steps pc) ⌝ }
 {
     let spelling = spelled(image, rows, pc);
     match spelling {

@@ -16,19 +16,20 @@ use Rattle.predicate_trace.specs.declared.PredicateControlStep.{PredicateContro
 use Rattle.predicate_answer.specs.declared.PredicateTransducerExecution.{PredicateTransducerExecution}
 use Rattle.predicate_answer.specs.Blank.{maxEvents, noExecution, noEvents}
 use Rattle.predicate_trace.specs.Trace.{entryBytes}
-use Rattle.lane_record.specs.declared.RecordAnswer.{RecordAnswer}
-use Rattle.lane_record.specs.declared.RecordAnswer.the-variants as recorded
-use Rattle.lane_record.specs.declared.RecordOutcome.{RecordOutcome}
+use Rattle.predicate_answer.specs.declared.RecordAnswer.{RecordAnswer}
+use Rattle.predicate_answer.specs.declared.RecordAnswer.the-variants as recorded
+use Rattle.predicate_answer.specs.declared.RecordOutcome.{RecordOutcome}
 use Rattle.lane_record.specs.Format.{heading, widths, Record, accepted, refused, executionValues, FitsRecord}
 use Rattle.lane_record.specs.Rules.{valid}
 use Rattle.lane_record.specs.Decode.{decodeRecord}
-use Rattle.lane_record.specs.Answers.{Said, done, wrote, refuses, writeSaid, noOutcome, acceptedOutcome, readAnswer, readOutcome, readTrace, given, writeAnswer, writeOutput}
+use Rattle.lane_record.specs.Answers.{Said, done, wrote, refuses, writeSaid, readAnswer, readOutcome, readTrace, given, writeAnswer, writeOutput}
+use Rattle.predicate_answer.specs.Outcome.{noOutcome, acceptedOutcome}
 use Rattle.lane_record.proofs.TestLaws.{yes}
 use Rattle.lane_record.proofs.DecodeLaws.{rules, decode-same}
 use Rattle.lane_record.proofs.AnswerLaws.{few-events}
 use Rattle.lane_record.proofs.Theorems.{rewritten}
-use Rattle.lane_library.specs.Outcome.{count}
-use Rattle.lane_exports.specs.Boundary.{headingAt, answerWords, eventWords, code, wordsAfter, fit, formed, eventsFrom, outcomeFrom, FitsAnswer, FitsTypes, ReadsWords, WritesWords, BreaksRules, WordsBack, Rewrites}
+use Rattle.lane_library.specs.Outcome.{code, count}
+use Rattle.lane_exports.specs.Boundary.{headingAt, answerWords, eventWords, wordsAfter, fit, formed, eventsFrom, outcomeFrom, FitsAnswer, FitsTypes, ReadsWords, WritesWords, BreaksRules, WordsBack, Rewrites}
 
 -- ---- words that stand for no outcome
 none-by : (b : Bool) (o : RecordOutcome) (t : List ℕ) → b ≡ false → given (cond b o noOutcome) t ≡ none

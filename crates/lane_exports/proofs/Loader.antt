@@ -13,17 +13,18 @@ use Rattle.predicate_trace.specs.Trace.{entryBytes, stepsAt}
 use Rattle.predicate_answer.specs.declared.CompiledMmioEvent.{CompiledMmioEvent}
 use Rattle.predicate_answer.specs.declared.PredicateTransducerExecution.{PredicateTransducerExecution}
 use Rattle.predicate_answer.specs.Blank.{noEvents}
-use Rattle.predicate_semantics.specs.declared.Rv32SymbolLayout.{Rv32SymbolLayout}
-use Rattle.predicate_semantics.specs.State.{Result}
-use Rattle.predicate_semantics.specs.Standing.{standingScalarRun}
+use Rattle.predicate_semantics.specs.declared.Rv32Program.{Rv32Program}
+use Rattle.predicate_semantics.specs.State.{Result, resultRead}
+use Rattle.predicate_semantics.specs.Standing.{scalarAnswer}
 use Rattle.lane_record.specs.declared.ReadAnswer.the-variants as read
 use Rattle.lane_record.specs.Format.{Record, accepted, refused}
 use Rattle.lane_record.specs.Rules.{valid}
 use Rattle.lane_record.specs.Decode.{decodeRecord}
-use Rattle.lane_record.specs.Answers.{Said, wrote, acceptedOutcome}
+use Rattle.lane_record.specs.Answers.{Said, wrote}
+use Rattle.predicate_answer.specs.Outcome.{acceptedOutcome}
 use Rattle.lane_record.proofs.DecodeLaws.{rules, decode-valid}
 use Rattle.lane_record.proofs.AnswerLaws.{few-events}
-use Rattle.lane_library.specs.Promise.{resultRead, Promise}
+use Rattle.lane_library.specs.Promise.{Promise}
 use Rattle.lane_exports.specs.Boundary.{eventWords, eventsFrom, outcomeWords, ReadsWords}
 use Rattle.lane_exports.specs.Loader.{kind, firstInput, laneCount, resultWords, WordsPromised}
 
@@ -40,11 +41,11 @@ module _ (e : PredicateTransducerExecution) (es : List CompiledMmioEvent) (ss : 
       omega (arith, few-events e (r .0), r .1, length-append es (drop (length es) noEvents), length-drop (length es) noEvents)
 
 -- a promise over bytes, and the words that were read of them
-module _ (image : List ℕ) (symbols : Rv32SymbolLayout) (said : Said) (output : List ℕ) (p : Promise image symbols said output)
+module _ (image : List ℕ) (program : Rv32Program) (said : Said) (output : List ℕ) (p : Promise image program said output)
     (n : ℕ) (w : said ≡ wrote n) (t ws t′ ws′ : List ℕ) (k : kind ws′ ≡ 0x01)
     (i : ℕ) (low : firstInput ws′ ≤ i) (high : i < firstInput ws′ + laneCount ws′) (others : ℕ → ℕ) where
   abbrev Answers : Type 0
-  Answers = standingScalarRun image symbols i others ≡ some (resultWords ws′ t′)
+  Answers = scalarAnswer image program i others ≡ some (resultWords ws′ t′)
 
   by-room : (x : PredicateTransducerExecution) (es : List CompiledMmioEvent) (ss : List PredicateControlStep)
       → decodeRecord (take n output) ≡ some (accepted x es ss) → (b : Bool) → leb (x .«symbolic_transitions» * entryBytes) (length t) ≡ b
@@ -73,5 +74,5 @@ module _ (image : List ℕ) (symbols : Rv32SymbolLayout) (said : Said) (output :
   by-record (some (accepted x es ss)) e h = by-room x es ss e (leb (x .«symbolic_transitions» * entryBytes) (length t)) refl h
 
 pub words-promised : WordsPromised
-words-promised image symbols said output p n w t ws t′ ws′ h k i low high others =
-    by-record image symbols said output p n w t ws t′ ws′ k i low high others (decodeRecord (take n output)) refl h
+words-promised image program said output p n w t ws t′ ws′ h k i low high others =
+    by-record image program said output p n w t ws t′ ws′ k i low high others (decodeRecord (take n output)) refl h

@@ -15,10 +15,10 @@ use Rattle.little_endian.proofs.SetLaws.{sets-append, sets-step, sets-over}
 use Rattle.predicate_answer.specs.declared.CompiledMmioEvent.{CompiledMmioEvent}
 use Rattle.predicate_answer.specs.declared.PredicateTransducerExecution.{PredicateTransducerExecution}
 use Rattle.predicate_answer.specs.Blank.{maxEvents, noEvent}
-use Rattle.lane_record.specs.declared.RecordAnswer.{RecordAnswer}
-use Rattle.lane_record.specs.declared.RecordAnswer.the-variants as recorded
-use Rattle.lane_record.specs.declared.RecordRefusal.{RecordRefusal}
-use Rattle.lane_record.specs.declared.RecordOutcome.{RecordOutcome}
+use Rattle.predicate_answer.specs.declared.RecordAnswer.{RecordAnswer}
+use Rattle.predicate_answer.specs.declared.RecordAnswer.the-variants as recorded
+use Rattle.predicate_answer.specs.declared.RecordRefusal.{RecordRefusal}
+use Rattle.predicate_answer.specs.declared.RecordOutcome.{RecordOutcome}
 use Rattle.lane_record.specs.declared.ReadAnswer.{ReadAnswer}
 use Rattle.lane_record.specs.declared.ReadAnswer.the-variants as read
 use Rattle.lane_record.specs.declared.RecordReading.{RecordReading}
@@ -26,7 +26,8 @@ use Rattle.lane_record.specs.declared.WriteAnswer.{WriteAnswer}
 use Rattle.lane_record.specs.Format.{heading, refusal, kindByte, widths, Record, executionValues, executionFrom, eventValues, eventFrom, refusalFrom}
 use Rattle.lane_record.specs.Answers.{Said, readSaid, readAnswer, given, Reads, Writes}
 use Rattle.lane_record.proofs.TestLaws.{both}
-use Rattle.lane_exports.specs.Boundary.{headingAt, eventWordsAt, outcomeSize, answerWords, eventWords, outcomeWords, code, wordsAfter, ReadsWords, fit, formed, eventsFrom, outcomeFrom}
+use Rattle.lane_library.specs.Outcome.{code}
+use Rattle.lane_exports.specs.Boundary.{headingAt, eventWordsAt, outcomeSize, answerWords, eventWords, outcomeWords, wordsAfter, ReadsWords, fit, formed, eventsFrom, outcomeFrom}
 
 pub four : (l : List ℕ) (at a b c d : ℕ)
     → set (set (set (set l at a) (at + 1) b) (at + 2) c) (at + 3) d ≡ sets l at (a ∷ b ∷ c ∷ d ∷ [])

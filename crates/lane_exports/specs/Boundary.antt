@@ -9,23 +9,27 @@ use lib.ListN.{length, getD, drop}
 use Rattle.little_endian.specs.Number.{AllBytes}
 use Rattle.little_endian.specs.Pack.{Fits}
 use Rattle.little_endian.specs.Lent.{over}
+use Rattle.lane_word.specs.declared.InputRange.{InputRange}
+use Rattle.predicate_semantics.specs.declared.Rv32Program.{Rv32Program}
 use Rattle.predicate_answer.specs.declared.CompiledMmioEvent.{CompiledMmioEvent}
 use Rattle.predicate_answer.specs.Blank.{noEvents}
-use Rattle.lane_record.specs.declared.RecordAnswer.{RecordAnswer}
-use Rattle.lane_record.specs.declared.RecordAnswer.the-variants as recorded
-use Rattle.lane_record.specs.declared.RecordOutcome.{RecordOutcome}
+use Rattle.predicate_answer.specs.declared.RecordAnswer.{RecordAnswer}
+use Rattle.predicate_answer.specs.declared.RecordAnswer.the-variants as recorded
+use Rattle.predicate_answer.specs.declared.RecordOutcome.{RecordOutcome}
 use Rattle.lane_record.specs.Format.{heading, event, refusal, kindByte, widths, Record, executionValues, executionFrom, eventValues, eventFrom, refusalValues, refusalFrom}
 use Rattle.lane_record.specs.Decode.{decodeRecord}
-use Rattle.lane_record.specs.Answers.{Said, wrote, done, refuses, writeSaid, noOutcome, readAnswer, readOutcome, readTrace, given, Writes}
-use Rattle.lane_library.specs.Outcome.{count}
+use Rattle.lane_record.specs.Answers.{Said, wrote, done, refuses, writeSaid, readAnswer, readOutcome, readTrace, given, Writes}
+use Rattle.predicate_answer.specs.Outcome.{noOutcome}
+use Rattle.lane_library.specs.Outcome.{code, count}
 
--- Who causes a refusal: an answer as one number, 0 where it refuses nothing
-abbrev pub code : Said → ℕ
-code done = 0
-code (wrote n) = 0
-code (refuses k) = k
+-- a program by its symbols, and a range by its first input and its last
+abbrev pub programBy : ℕ → ℕ → ℕ → Rv32Program
+programBy entry eventCount events = record { symbols = record { entry = entry; «event_count» = eventCount; events = events } }
 
--- an answer of the writer, or of a run over a range, as two numbers
+abbrev pub rangeBy : ℕ → ℕ → InputRange
+rangeBy first last = record { first = first; last = last }
+
+-- an answer of the writer, or of a call, as two numbers
 pub record Coded {A : Type 0} (said : A → Said) (holds : A → Type 0) (r written : ℕ) : Type 0 where
   pub answer : A
   pub held : holds answer

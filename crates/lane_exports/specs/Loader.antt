@@ -5,9 +5,9 @@ use mathlib.Core.List.{List}
 use Prim.Native.Nat.{ℕ, _+_, _≤_, _<_}
 use lib.ListN.{getD, take, drop}
 use Rattle.predicate_trace.specs.Trace.{stepsAt}
-use Rattle.predicate_semantics.specs.declared.Rv32SymbolLayout.{Rv32SymbolLayout}
+use Rattle.predicate_semantics.specs.declared.Rv32Program.{Rv32Program}
 use Rattle.predicate_semantics.specs.State.{Result}
-use Rattle.predicate_semantics.specs.Standing.{standingScalarRun}
+use Rattle.predicate_semantics.specs.Standing.{scalarAnswer}
 use Rattle.lane_record.specs.Decode.{decodeRecord}
 use Rattle.lane_record.specs.Answers.{Said, wrote}
 use Rattle.lane_library.specs.Promise.{Promise}
@@ -43,16 +43,16 @@ resultWords ws t = record {
 
 -- where 0 is answered and the kind is LANE_ACCEPTED, the words say what the scalar run of each input answers that they name, whatever the
 -- other registers hold
-abbrev pub WordsPromise : List ℕ → Rv32SymbolLayout → Said → List ℕ → Type 0
-WordsPromise image symbols said output =
+abbrev pub WordsPromise : List ℕ → Rv32Program → Said → List ℕ → Type 0
+WordsPromise image program said output =
     (n : ℕ) → said ≡ wrote n
     → (t ws t′ ws′ : List ℕ) → ReadsWords (decodeRecord (take n output)) t ws 0 t′ ws′
     → kind ws′ ≡ 0x01
     → (i : ℕ) → firstInput ws′ ≤ i → i < firstInput ws′ + laneCount ws′
-    → (others : ℕ → ℕ) → standingScalarRun image symbols i others ≡ some (resultWords ws′ t′)
+    → (others : ℕ → ℕ) → scalarAnswer image program i others ≡ some (resultWords ws′ t′)
 
 -- the promise over bytes gives it
 abbrev pub WordsPromised : Type 0
 WordsPromised =
-    (image : List ℕ) (symbols : Rv32SymbolLayout) (said : Said) (output : List ℕ)
-    → Promise image symbols said output → WordsPromise image symbols said output
+    (image : List ℕ) (program : Rv32Program) (said : Said) (output : List ℕ)
+    → Promise image program said output → WordsPromise image program said output

@@ -5,12 +5,12 @@ use super::words::EVENTS_AT;
 use super::words::HEADING_AT;
 use super::words::OUTCOME_WORDS;
 use super::words::REFUSED;
-use lane_record::RecordAnswer;
-use lane_record::RecordOutcome;
-use lane_record::RecordRefusal;
 use predicate_answer::CompiledMmioEvent;
 use predicate_answer::MAX_EVENTS;
 use predicate_answer::PredicateTransducerExecution;
+use predicate_answer::RecordAnswer;
+use predicate_answer::RecordOutcome;
+use predicate_answer::RecordRefusal;
 ghost use mathlib.Core.Path.{_≡_};
 ghost use mathlib.Core.Bool.{true, _&&_, _||_};
 ghost use mathlib.Core.List.{[], _∷_};
@@ -147,7 +147,7 @@ pub fn outcome_from(s: &[u32; OUTCOME_WORDS]) -> RecordOutcome
     ensures { λ r. ⌜ r ≡ outcomeFrom (now (s .entry)) ⌝ }
 {
     if !formed(s) {
-        return lane_library::refused_outcome(0);
+        return predicate_answer::no_outcome();
     }
     let answer = answer_from(s);
     let execution = execution_from(s);

@@ -7,24 +7,24 @@ use lane_library::RunAnswer;
 use lane_record::ReadAnswer;
 use lane_record::WriteAnswer;
 use lane_word::InputRange;
+use predicate_semantics::Rv32Program;
 use predicate_semantics::Rv32SymbolLayout;
 use words::OUTCOME_WORDS;
 use words::words_of;
 ghost use mathlib.Core.Path.{_≡_};
 ghost use Rattle.lane_record.specs.Decode.{decodeRecord};
-ghost use Rattle.lane_record.specs.Answers.{readSaid, writeSaid, given, Writes};
+ghost use Rattle.lane_record.specs.Answers.{readSaid, given, Writes};
 ghost use Rattle.lane_word.specs.Range.{invalidChannels};
-ghost use Rattle.lane_library.specs.Outcome.{lent, ranSaid, LaneRuns, ImageRuns, RangeRuns};
-ghost use Rattle.lane_exports.specs.Boundary.{code, outcomeFrom, Coded, ReadsWords, WritesWords};
+ghost use Rattle.lane_library.specs.Inputs.{imageIn, inputProgram};
+ghost use Rattle.lane_library.specs.Outcome.{ranSaid, code, count, lent, Runs};
+ghost use Rattle.lane_exports.specs.Boundary.{outcomeFrom, programBy, rangeBy, Coded, ReadsWords, WritesWords};
 
-fn code_of(answer: WriteAnswer) -> u32
-    ensures { λ r. ⌜ r ≡ code (writeSaid answer) ⌝ }
+// An answer as its number, with how many bytes are written beside it.
+fn coded(answer: RunAnswer, written: &mut u64) -> u32
+    ensures { λ r. ⌜ (r ≡ code (ranSaid answer)) × (now (written .exit) ≡ count (ranSaid answer)) ⌝ }
 {
-    match answer {
-        WriteAnswer::Written(_) => 0,
-        WriteAnswer::RulesBroken => 15,
-        WriteAnswer::OutputTooShort => 16,
-    }
+    *written = answer.written() as u64;
+    answer.number()
 }
 
 #[no_mangle]
@@ -35,11 +35,40 @@ pub extern "C" fn lane_run(
     output: &mut [u8],
     written: &mut u64,
 ) -> u32
-    ensures { λ r. ⌜ Coded writeSaid (λ a. LaneRuns (now (input .entry)) (lent (now (rows .entry)) (now (trace .entry)) (now (output .entry))) a (lent (now (rows .exit)) (now (trace .exit)) (now (output .exit)))) r (now (written .exit)) ⌝ }
+    ensures { λ r. ⌜ Coded ranSaid (λ a. Runs (imageIn (now (input .entry))) (inputProgram (now (input .entry))) invalidChannels (lent (now (rows .entry)) (now (trace .entry)) (now (output .entry))) a (lent (now (rows .exit)) (now (trace .exit)) (now (output .exit)))) r (now (written .exit)) ⌝ }
 {
     let answer = lane_library::run_input(input, rows, trace, output);
-    *written = lane_library::count_of(answer) as u64;
-    code_of(answer)
+    coded(answer, written)
+}
+
+// A firmware, a setting and what is lent, field by field: include/lane.h has them as structs.
+#[no_mangle]
+pub extern "C" fn lane_run_with_plain(
+    image: &[u8],
+    entry: u32,
+    event_count: u32,
+    events: u32,
+    first_input: u8,
+    last_input: u8,
+    rows: &mut [u8],
+    trace: &mut [u8],
+    output: &mut [u8],
+    written: &mut u64,
+) -> u32
+    ensures { λ r. ⌜ Coded ranSaid (λ a. Runs (now (image .entry)) (programBy entry «event_count» events) (rangeBy «first_input» «last_input») (lent (now (rows .entry)) (now (trace .entry)) (now (output .entry))) a (lent (now (rows .exit)) (now (trace .exit)) (now (output .exit)))) r (now (written .exit)) ⌝ }
+{
+    let symbols = Rv32SymbolLayout {
+        entry: entry,
+        event_count: event_count,
+        events: events,
+    };
+    let program = Rv32Program { symbols: symbols };
+    let range = InputRange {
+        first: first_input,
+        last: last_input,
+    };
+    let answer = lane_library::run_with(image, program, range, rows, trace, output);
+    coded(answer, written)
 }
 
 #[no_mangle]
@@ -53,25 +82,21 @@ pub extern "C" fn lane_run_image(
     output: &mut [u8],
     written: &mut u64,
 ) -> u32
-    ensures { λ r. ⌜ Coded writeSaid (λ a. ImageRuns (now (image .entry)) (record { entry = entry; «event_count» = «event_count»; events = events }) invalidChannels (lent (now (rows .entry)) (now (trace .entry)) (now (output .entry))) a (lent (now (rows .exit)) (now (trace .exit)) (now (output .exit)))) r (now (written .exit)) ⌝ }
+    ensures { λ r. ⌜ Coded ranSaid (λ a. Runs (now (image .entry)) (programBy entry «event_count» events) invalidChannels (lent (now (rows .entry)) (now (trace .entry)) (now (output .entry))) a (lent (now (rows .exit)) (now (trace .exit)) (now (output .exit)))) r (now (written .exit)) ⌝ }
 {
-    let symbols = Rv32SymbolLayout {
-        entry: entry,
-        event_count: event_count,
-        events: events,
-    };
-    let answer = lane_library::run_image(image, symbols, rows, trace, output);
-    *written = lane_library::count_of(answer) as u64;
-    code_of(answer)
-}
-
-fn ran_code(answer: RunAnswer) -> u32
-    ensures { λ r. ⌜ r ≡ code (ranSaid answer) ⌝ }
-{
-    match answer {
-        RunAnswer::Recorded(written) => code_of(written),
-        RunAnswer::Refused(error) => error.number() as u32,
-    }
+    let range = InputRange::invalid_channels();
+    lane_run_with_plain(
+        image,
+        entry,
+        event_count,
+        events,
+        range.first,
+        range.last,
+        rows,
+        trace,
+        output,
+        written,
+    )
 }
 
 #[no_mangle]
@@ -87,20 +112,20 @@ pub extern "C" fn lane_run_range(
     output: &mut [u8],
     written: &mut u64,
 ) -> u32
-    ensures { λ r. ⌜ Coded ranSaid (λ a. RangeRuns (now (image .entry)) (record { entry = entry; «event_count» = «event_count»; events = events }) (record { first = «first_input»; last = «last_input» }) (lent (now (rows .entry)) (now (trace .entry)) (now (output .entry))) a (lent (now (rows .exit)) (now (trace .exit)) (now (output .exit)))) r (now (written .exit)) ⌝ }
+    ensures { λ r. ⌜ Coded ranSaid (λ a. Runs (now (image .entry)) (programBy entry «event_count» events) (rangeBy «first_input» «last_input») (lent (now (rows .entry)) (now (trace .entry)) (now (output .entry))) a (lent (now (rows .exit)) (now (trace .exit)) (now (output .exit)))) r (now (written .exit)) ⌝ }
 {
-    let symbols = Rv32SymbolLayout {
-        entry: entry,
-        event_count: event_count,
-        events: events,
-    };
-    let range = InputRange {
-        first: first_input,
-        last: last_input,
-    };
-    let answer = lane_library::run_range(image, symbols, range, rows, trace, output);
-    *written = lane_library::ran_count(answer) as u64;
-    ran_code(answer)
+    lane_run_with_plain(
+        image,
+        entry,
+        event_count,
+        events,
+        first_input,
+        last_input,
+        rows,
+        trace,
+        output,
+        written,
+    )
 }
 
 fn reading_code(answer: ReadAnswer) -> u32
@@ -149,6 +174,5 @@ pub extern "C" fn lane_write_record(
     ensures { λ r. ⌜ WritesWords (now (outcome .entry)) (now (trace .entry)) (now (output .entry)) r (now (output .exit)) (now (written .exit)) ⌝ }
 {
     let answer = write_words(outcome, trace, output);
-    *written = lane_library::count_of(answer) as u64;
-    code_of(answer)
+    coded(RunAnswer::Recorded(answer), written)
 }

@@ -1,9 +1,9 @@
 // An outcome as words at the C boundary.
-use lane_record::RecordAnswer;
-use lane_record::RecordOutcome;
 use predicate_answer::CompiledMmioEvent;
 use predicate_answer::MAX_EVENTS;
 use predicate_answer::PredicateTransducerExecution;
+use predicate_answer::RecordAnswer;
+use predicate_answer::RecordOutcome;
 ghost use mathlib.Core.Path.{_≡_};
 ghost use mathlib.Core.List.{[], _∷_};
 ghost use Prim.Native.Nat.{_+_, _≤_};

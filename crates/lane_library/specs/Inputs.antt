@@ -1,11 +1,12 @@
 -- The input of the program lane-run (document 01, Record): the symbols, then the image.
-use mathlib.Core.Bool.{Bool, _&&_}
-use mathlib.Core.List.{List}
-use Prim.Native.Nat.{ℕ, _+_}
+use mathlib.Core.Path.{_≡_}
+use mathlib.Core.Bool.{Bool, cond, _&&_}
+use mathlib.Core.List.{List, []}
+use Prim.Native.Nat.{ℕ, _+_, _≤_}
 use lib.Dec.{leb, ltb}
 use lib.ListN.{length, take, drop}
 use Rattle.little_endian.specs.Number.{value}
-use Rattle.predicate_semantics.specs.declared.Rv32SymbolLayout.{Rv32SymbolLayout}
+use Rattle.predicate_semantics.specs.declared.Rv32Program.{Rv32Program}
 
 -- Record: how many bytes the symbols take
 abbrev pub symbolBytes : ℕ
@@ -24,14 +25,19 @@ abbrev pub programEntries : ℕ
 programEntries = 2048
 
 -- Record: the three symbols, a word each
-abbrev pub symbolsIn : List ℕ → Rv32SymbolLayout
-symbolsIn input =
-    record { entry = value (take 4 input); «event_count» = value (take 4 (drop 4 input)); events = value (take 4 (drop 8 input)) }
+abbrev pub inputProgram : List ℕ → Rv32Program
+inputProgram input =
+    record { symbols = record { entry = value (take 4 input); «event_count» = value (take 4 (drop 4 input)); events = value (take 4 (drop 8 input)) } }
 
--- Record: what comes after them
-abbrev pub imageIn : List ℕ → List ℕ
-imageIn input = drop symbolBytes input
-
--- Record: the image has a byte at least, and is no larger than the program takes
+-- Record: the image after them has a byte at least, and is no larger than the program takes
 abbrev pub taken : List ℕ → Bool
 taken input = ltb symbolBytes (length input) && leb (length input) (symbolBytes + programImageBytes)
+
+-- Record: the image; of one that is not taken nothing, which is refused with 1
+abbrev pub imageIn : List ℕ → List ℕ
+imageIn input = cond (taken input) (drop symbolBytes input) []
+
+-- the image is what lies from a place on
+pub record BeginsImage (input : List ℕ) (start : ℕ) : Type 0 where
+  pub fits : start ≤ length input
+  pub rest : drop start input ≡ imageIn input

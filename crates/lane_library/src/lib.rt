@@ -1,25 +1,19 @@
-// The lane run from the program's input bytes to the record's bytes, over lent memory.
-use lane_record::RecordAnswer;
-use lane_record::RecordOutcome;
-use lane_record::RecordRefusal;
+// A call from what its caller chose and lent to the record's bytes, and from the program's input bytes to them.
 use lane_record::WriteAnswer;
 use lane_word::InputRange;
-use predicate_answer::LAST_REFUSAL;
-use predicate_answer::Rv32Error;
+use predicate_answer::CallError;
+use predicate_answer::CallVerdict;
+use predicate_semantics::Rv32Program;
 use predicate_semantics::Rv32SymbolLayout;
-use riscv32imc_predicate::PredicateAnswer;
-use riscv32imc_predicate::PredicateRun;
 ghost use mathlib.Core.Path.{_≡_};
-ghost use Rattle.lane_record.specs.Format.{refused};
 ghost use Rattle.lane_word.specs.Range.{invalidChannels};
-ghost use Rattle.lane_record.specs.Answers.{refusedOutcome, writeSaid, given, Writes};
-ghost use Rattle.lane_library.specs.Inputs.{symbolsIn, taken};
-ghost use Rattle.lane_library.specs.Outcome.{answerOf, outcomeOf, sizeRefusal, ranSaid, count, Gives, lent, ImageRuns, RangeRuns, LaneRuns};
+ghost use Rattle.lane_library.specs.Inputs.{inputProgram, imageIn, taken, BeginsImage};
+ghost use Rattle.lane_library.specs.Outcome.{ranSaid, code, count, lent, Runs};
 
-// What a run over a range answers: what the writer of its record does, or a refusal that no record holds.
+// What a call answers: what the writer of its run's record does, or the refusal of the call.
 pub enum RunAnswer {
     Recorded(WriteAnswer),
-    Refused(Rv32Error),
+    Refused(CallError),
 }
 
 // The bytes of the symbols before the image.
@@ -31,63 +25,65 @@ const IMAGE_BYTES: usize = 32_768;
 // The longest input that is taken.
 pub const INPUT_BYTES: usize = SYMBOL_BYTES + IMAGE_BYTES;
 
-fn answer_of(answer: PredicateAnswer, steps: u32) -> RecordAnswer
-    ensures { λ r. ⌜ r ≡ answerOf answer steps ⌝ }
-{
-    match answer {
-        PredicateAnswer::Accepted => RecordAnswer::Accepted,
-        PredicateAnswer::Refused(error) => {
-            let number = error.number();
-            let role = error.role();
-            let refusal = RecordRefusal {
-                number: number,
-                role: role,
-                steps: steps,
-            };
-            RecordAnswer::Refused(refusal)
+impl RunAnswer {
+    // The number of what is refused; 0 where a record is written.
+    pub fn number(self) -> u32
+        ensures { λ r. ⌜ r ≡ code (ranSaid self) ⌝ }
+    {
+        match self {
+            RunAnswer::Recorded(answer) => match answer {
+                WriteAnswer::Written(_) => 0,
+                WriteAnswer::RulesBroken => 15,
+                WriteAnswer::OutputTooShort => 16,
+            },
+            RunAnswer::Refused(error) => error.number() as u32,
+        }
+    }
+
+    // How many bytes are written.
+    pub fn written(self) -> usize
+        ensures { λ r. ⌜ r ≡ count (ranSaid self) ⌝ }
+    {
+        match self {
+            RunAnswer::Recorded(answer) => match answer {
+                WriteAnswer::Written(n) => n,
+                WriteAnswer::RulesBroken => 0,
+                WriteAnswer::OutputTooShort => 0,
+            },
+            RunAnswer::Refused(_) => 0,
         }
     }
 }
 
-// What the writer is given of a run.
-fn outcome_of(run: PredicateRun) -> RecordOutcome
-    ensures { λ r. ⌜ r ≡ outcomeOf run ⌝ }
+// The run of an image, and its record where it has one.
+pub fn run_with(
+    image: &[u8],
+    program: Rv32Program,
+    range: InputRange,
+    rows: &mut [u8],
+    trace: &mut [u8],
+    output: &mut [u8],
+) -> RunAnswer
+    ensures { λ r. ⌜ Runs (now (image .entry)) program range (lent (now (rows .entry)) (now (trace .entry)) (now (output .entry))) r (lent (now (rows .exit)) (now (trace .exit)) (now (output .exit))) ⌝ }
 {
-    let answer = run.answer;
-    let execution = run.execution;
-    let events = run.events;
-    let said = answer_of(answer, run.steps);
-    RecordOutcome {
-        answer: said,
-        execution: execution,
-        events: events,
+    let run = riscv32imc_predicate::execute_predicate(image, program, range, rows, trace);
+    let verdict = run.verdict;
+    if let CallVerdict::Refused(error) = verdict {
+        return RunAnswer::Refused(error);
     }
+    let outcome = run.outcome;
+    RunAnswer::Recorded(lane_record::write_record(outcome, trace, output))
 }
 
-// A refusal before any step, without a role.
-pub fn refused_outcome(number: u8) -> RecordOutcome
-    ensures { λ r. ⌜ r ≡ refusedOutcome (record { number = number; role = 0; steps = 0 }) ⌝ }
+fn program_in(input: &[u8]) -> Rv32Program
+    ensures { λ r. ⌜ r ≡ inputProgram (now (input .entry)) ⌝ }
 {
-    let refusal = RecordRefusal {
-        number: number,
-        role: 0,
-        steps: 0,
-    };
-    RecordOutcome {
-        answer: RecordAnswer::Refused(refusal),
-        execution: predicate_answer::no_execution(),
-        events: predicate_answer::no_events(),
-    }
-}
-
-fn symbols_in(input: &[u8]) -> Rv32SymbolLayout
-    ensures { λ r. ⌜ r ≡ symbolsIn (now (input .entry)) ⌝ }
-{
-    Rv32SymbolLayout {
+    let symbols = Rv32SymbolLayout {
         entry: little_endian::get_u32(input, 0),
         event_count: little_endian::get_u32(input, 4),
         events: little_endian::get_u32(input, 8),
-    }
+    };
+    Rv32Program { symbols: symbols }
 }
 
 // Whether the image is one that the program takes.
@@ -97,83 +93,23 @@ fn takes(input: &[u8]) -> bool
     SYMBOL_BYTES < input.len() && input.len() <= INPUT_BYTES
 }
 
-fn refuse_input(rows: &mut [u8], output: &mut [u8]) -> WriteAnswer
-    ensures { λ r. ⌜ Gives (refused sizeRefusal) (now (rows .entry)) (now (output .entry)) r (now (rows .exit)) (now (output .exit)) ⌝ }
-{
-    lane_memory::clear(rows);
-    let outcome = refused_outcome(1);
-    lane_record::write_record(outcome, b"", output)
-}
-
-// How many bytes the writer says that it wrote.
-pub fn count_of(answer: WriteAnswer) -> usize
-    ensures { λ r. ⌜ r ≡ count (writeSaid answer) ⌝ }
-{
-    match answer {
-        WriteAnswer::Written(n) => n,
-        WriteAnswer::RulesBroken => 0,
-        WriteAnswer::OutputTooShort => 0,
-    }
-}
-
-pub fn ran_count(answer: RunAnswer) -> usize
-    ensures { λ r. ⌜ r ≡ count (ranSaid answer) ⌝ }
-{
-    match answer {
-        RunAnswer::Recorded(written) => count_of(written),
-        RunAnswer::Refused(_) => 0,
-    }
-}
-
-fn write_run(run: PredicateRun, trace: &[u8], output: &mut [u8]) -> WriteAnswer
-    ensures { λ r. ⌜ Writes (given (outcomeOf run) (now (trace .entry))) (now (output .entry)) r (now (output .exit)) ⌝ }
-{
-    let outcome = outcome_of(run);
-    lane_record::write_record(outcome, trace, output)
-}
-
-// The run of an image by itself, up to the largest that the run takes; any other has the record of refusal 1.
-pub fn run_image(
-    image: &[u8],
-    symbols: Rv32SymbolLayout,
-    rows: &mut [u8],
-    trace: &mut [u8],
-    output: &mut [u8],
-) -> WriteAnswer
-    ensures { λ r. ⌜ ImageRuns (now (image .entry)) symbols invalidChannels (lent (now (rows .entry)) (now (trace .entry)) (now (output .entry))) r (lent (now (rows .exit)) (now (trace .exit)) (now (output .exit))) ⌝ }
-{
-    let run = riscv32imc_predicate::execute_invalid_channel_predicate(image, symbols, rows, trace);
-    write_run(run, trace, output)
-}
-
-// The same over a range of inputs.
-pub fn run_range(
-    image: &[u8],
-    symbols: Rv32SymbolLayout,
-    range: InputRange,
-    rows: &mut [u8],
-    trace: &mut [u8],
-    output: &mut [u8],
-) -> RunAnswer
-    ensures { λ r. ⌜ RangeRuns (now (image .entry)) symbols range (lent (now (rows .entry)) (now (trace .entry)) (now (output .entry))) r (lent (now (rows .exit)) (now (trace .exit)) (now (output .exit))) ⌝ }
-{
-    let run = riscv32imc_predicate::execute_predicate(image, symbols, range, rows, trace);
-    let answer = run.answer;
-    if let PredicateAnswer::Refused(error) = answer {
-        if LAST_REFUSAL < error.number() as u32 {
-            return RunAnswer::Refused(error);
-        }
-    }
-    RunAnswer::Recorded(write_run(run, trace, output))
-}
-
-// The run of an input as the program takes it: every input has a record, and 16 is the one refusal besides.
-pub fn run_input(input: &[u8], rows: &mut [u8], trace: &mut [u8], output: &mut [u8]) -> WriteAnswer
-    ensures { λ r. ⌜ LaneRuns (now (input .entry)) (lent (now (rows .entry)) (now (trace .entry)) (now (output .entry))) r (lent (now (rows .exit)) (now (trace .exit)) (now (output .exit))) ⌝ }
+// Where the image begins: after the symbols, or, where it is not taken, at the end, so that there is none.
+fn image_start(input: &[u8]) -> usize
+    ensures { λ r. ⌜ BeginsImage (now (input .entry)) r ⌝ }
 {
     if takes(input) {
-        let symbols = symbols_in(input);
-        return run_image(&input[SYMBOL_BYTES..], symbols, rows, trace, output);
+        SYMBOL_BYTES
+    } else {
+        input.len()
     }
-    refuse_input(rows, output)
+}
+
+// The run of an input as the program takes it: every input has a record, since one that is not taken is a run of no image, refused with 1.
+pub fn run_input(input: &[u8], rows: &mut [u8], trace: &mut [u8], output: &mut [u8]) -> RunAnswer
+    ensures { λ r. ⌜ Runs (imageIn (now (input .entry))) (inputProgram (now (input .entry))) invalidChannels (lent (now (rows .entry)) (now (trace .entry)) (now (output .entry))) r (lent (now (rows .exit)) (now (trace .exit)) (now (output .exit))) ⌝ }
+{
+    let start = image_start(input);
+    let program = program_in(input);
+    let range = InputRange::invalid_channels();
+    run_with(&input[start..], program, range, rows, trace, output)
 }

@@ -3,78 +3,75 @@ use mathlib.Core.Path.{_≡_, refl, sym, ap, _∙_, subst}
 use mathlib.Core.Bool.{Bool, true, false, cond}
 use mathlib.Core.List.{List}
 use mathlib.Core.Option.{some}
-use Prim.Native.Nat.{ℕ, _/_, _≤_}
+use Prim.Native.Nat.{ℕ, _≤_}
 use native.Mathlib.Omega.{arith}
-use borrow.Author.Tests.{le-leb, ltb-true, ltb-false}
-use lib.Dec.{ltb}
+use borrow.Author.Tests.{le-leb, leb-true, ltb-true, ltb-false}
+use lib.Dec.{leb, ltb}
 use lib.ListN.{length, take, replicate}
 use lib.Seq.{take-all, length-take-le}
 use Rattle.little_endian.specs.Lent.{over}
 use Rattle.lane_word.specs.Range.{invalidChannels}
-use Rattle.predicate_semantics.specs.declared.Rv32SymbolLayout.{Rv32SymbolLayout}
-use Rattle.predicate_trace.specs.Trace.{entryBytes, entryCount}
-use Rattle.lane_memory.specs.Rows.{rowBytes, rowCount}
-use Rattle.lane_record.specs.declared.WriteAnswer.{WriteAnswer}
+use Rattle.predicate_answer.specs.declared.CallVerdict.the-variants as verdict
+use Rattle.predicate_semantics.specs.Call.{rangeTest}
+use Rattle.predicate_semantics.specs.Outcome.{verdictOn}
+use Rattle.lane_record.specs.declared.WriteAnswer.the-variants as write
 use Rattle.lane_record.specs.Format.{Record, encode}
-use Rattle.lane_record.specs.Answers.{Said, wrote, refuses, writeSaid}
-use Rattle.lane_record.specs.Answers as Writer
-use Rattle.lane_library.specs.Inputs.{programRows, programEntries, symbolsIn, imageIn, taken}
-use Rattle.lane_library.specs.Outcome.{count, inputRecord, recordBytes, LentMemory, LaneRuns}
-use Rattle.lane_library.specs.Promise.{Promise}
-use Rattle.lane_library.proofs.Promise.{size-fits}
+use Rattle.lane_record.specs.Answers.{wrote}
+use Rattle.lane_record.specs.Runs.{recordOf}
+use Rattle.lane_library.specs.declared.RunAnswer.{RunAnswer}
+use Rattle.lane_library.specs.declared.RunAnswer.the-variants as ran
+use Rattle.lane_library.specs.Inputs.{programEntries, inputProgram, imageIn}
+use Rattle.lane_library.specs.Outcome.{ranSaid, count, recordBytes, LentMemory, Runs}
+use Rattle.lane_library.proofs.Promise.{record-fits}
+use Rattle.lane_library.proofs.Laws.{always-recorded}
 use Rattle.lane_program.specs.declared.Reading.{Reading}
 use Rattle.lane_program.specs.declared.Reading.the-variants as reading
 use Rattle.lane_program.specs.declared.ProgramOutput.{ProgramOutput}
-use Rattle.lane_program.specs.Program.{programRecord, inputBytes, ProgramLends, WritesRecord, Outputs, Answers}
+use Rattle.lane_program.specs.Program.{inputBytes, programLends, programCall, Outputs, RecordWritten, Answers}
 
-fits-by : (b : Bool) (input : List ℕ) (rows entries : ℕ) → length (encode (inputRecord b input rows entries)) ≤ recordBytes entries
-fits-by true input rows entries = size-fits (imageIn input) (symbolsIn input) invalidChannels rows entries
-fits-by false input rows entries = omega arith
+-- the program's call has a record, and its output has room for it
+record Writable (input : List ℕ) : Type 0 where
+  written : Record
+  is-record : recordOf (programCall input) ≡ some written
+  passes : verdictOn (programCall input) ≡ verdict.Passed
+  room : leb (length (encode written)) (recordBytes programEntries) ≡ true
 
--- what is written of a record that fits
-module _ (x : Record) (output : List ℕ) (w : WriteAnswer) (output′ : List ℕ) (h : Writer.Writes (some x) output w output′)
-    (l : length (encode x) ≤ length output) where
-  said : writeSaid w ≡ wrote (length (encode x))
-  said = h .answer ∙ ap (λ (b : Bool). cond {A = Said} b (wrote (length (encode x))) (refuses 16)) (le-leb _ _ l)
+writable : (input : List ℕ) → Writable input
+unfolding rangeTest
+writable input =
+    let c = programCall input in
+    let h = always-recorded c refl in
+    record { written = h .1; is-record = h .2; passes = h .0; room = le-leb _ _ (record-fits c (h .1) (h .2)) }
 
-  left : output′ ≡ over (encode x) output
-  left = h .output ∙ ap (λ (b : Bool). cond b (over (encode x) output) output) (le-leb _ _ l)
+module _ (input : List ℕ) {a : RunAnswer} {after : LentMemory} (h : Runs (imageIn input) (inputProgram input) invalidChannels programLends a after) where
+  abbrev f : Writable input
+  f = writable input
 
--- the promise is of the bytes that are said to be written
-promised : (image : List ℕ) (symbols : Rv32SymbolLayout) (w v : Said) (output : List ℕ) → w ≡ v
-    → Promise image symbols w output → Promise image symbols v output
-promised image symbols w v output e p n q = p n (e ∙ q)
+  -- so it is written whole
+  said : ranSaid a ≡ wrote (length (encode (f .written)))
+  said = h .answer ∙ rw (f .passes, f .is-record, f .room)
 
-module _ (input : List ℕ) (before after : LentMemory) (w : WriteAnswer) (n : ℕ) (lent : ProgramLends (before .rows) (before .trace) (before .output))
-    (h : LaneRuns input before w after) (c : n ≡ count (writeSaid w)) where
-  abbrev x : Record
-  x = programRecord input
+  left : after .output ≡ over (encode (f .written)) (replicate (recordBytes programEntries) 0)
+  left = h .output ∙ rw (f .is-record, f .room)
 
-  same : inputRecord (taken input) input (rowCount (before .rows)) (entryCount (before .trace)) ≡ x
-  same =
-      ap (λ (k : ℕ). inputRecord (taken input) input (k / rowBytes) (entryCount (before .trace))) (lent .rows-are)
-      ∙ ap (λ (k : ℕ). inputRecord (taken input) input programRows (k / entryBytes)) (lent .entries-are)
+-- the answer is what the writer wrote
+pub written-by : (a : RunAnswer) (n : ℕ) → ranSaid a ≡ wrote n → a ≡ ran.Recorded (write.Written (count (ranSaid a)))
+written-by (ran.Recorded (write.Written k)) n e = refl
+written-by (ran.Recorded write.RulesBroken) n e = let z : _≡_ {A = ℕ} 0 1 = cc in absurd (omega arith)
+written-by (ran.Recorded write.OutputTooShort) n e = let z : _≡_ {A = ℕ} 0 1 = cc in absurd (omega arith)
+written-by (ran.Refused x) n e = let z : _≡_ {A = ℕ} 0 1 = cc in absurd (omega arith)
 
-  written : Writer.Writes (some x) (before .output) w (after .output)
-  written = subst (λ (y : Record). Writer.Writes (some y) (before .output) w (after .output)) same (h .gives .writes)
+pub outputs : (input : List ℕ) {before : LentMemory} {a : RunAnswer} {after : LentMemory} {n : ℕ} → before ≡ programLends
+    → Runs (imageIn input) (inputProgram input) invalidChannels before a after → n ≡ count (ranSaid a)
+    → Outputs input (record { bytes = after .output; count = n })
+outputs input {before} {a} {after} {n} same h e =
+    let r = subst (λ (l : LentMemory). Runs (imageIn input) (inputProgram input) invalidChannels l a after) same h in
+    (after .rows, after .trace, subst (λ (x : RunAnswer). Runs (imageIn input) (inputProgram input) invalidChannels programLends x after) (written-by a _ (said input r) ∙ ap (λ (k : ℕ). ran.Recorded (write.Written k)) (sym e)) r)
 
-  room : length (encode x) ≤ length (before .output)
-  room = omega (arith, fits-by (taken input) input programRows programEntries, lent .room)
-
-  told : writeSaid w ≡ wrote (length (encode x))
-  told = said x (before .output) w (after .output) written room
-
-  sized : n ≡ length (encode x)
-  sized = c ∙ ap count told
-
-  pub writes : WritesRecord input (before .output) n (after .output)
-  writes = record {
-    size = sized;
-    fits = omega (arith, sized, fits-by (taken input) input programRows programEntries);
-    bytes = left x (before .output) w (after .output) written room;
-    promise =
-        promised (imageIn input) (symbolsIn input) (writeSaid w) (wrote n) (after .output) (told ∙ ap (λ (k : ℕ). wrote k) (sym sized)) (h .promise);
-  }
+pub record-written : RecordWritten
+record-written input r (rows, trace, h) =
+    let f = writable input in
+    (f .written, f .is-record, ap count (said input h), left input h)
 
 -- as many of n bytes as there is room for: they are there, and are the first n or all
 module _ (n : ℕ) (input : List ℕ) (l : length input ≡ inputBytes) where
@@ -105,5 +102,8 @@ answers-failed input {bytes} e b = subst (λ (y : Reading). Answers y input (rec
 
 -- .. is no longer than the longest record
 pub answer-fits : (x : Reading) (input : List ℕ) (r : ProgramOutput) → Answers x input r → r .count ≤ recordBytes programEntries
-answer-fits (reading.Bytes n) input r o = o .fits
+answer-fits (reading.Bytes n) input r o =
+    let f = writable (take n input) in
+    let e : r .count ≡ length (encode (f .written)) = ap count (said (take n input) (o .2)) in
+    omega (arith, e, leb-true (length (encode (f .written))) (recordBytes programEntries) (f .room))
 answer-fits reading.Failed input r o = omega (arith, o .0)

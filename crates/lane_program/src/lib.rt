@@ -8,7 +8,7 @@ use predicate_trace::ENTRY_BYTES;
 ghost use mathlib.Core.Path.{_≡_};
 ghost use mathlib.Core.Bool.{cond};
 ghost use lib.Dec.{ltb};
-ghost use Rattle.lane_program.specs.Program.{inputBytes, ProgramLends, WritesRecord, Outputs, Answers};
+ghost use Rattle.lane_program.specs.Program.{inputBytes, Outputs, Answers};
 
 // What the program lends.
 const ROWS: usize = 200;
@@ -38,24 +38,16 @@ pub struct ProgramOutput {
 }
 
 // The output is long enough for every record, so there is always one.
-fn run(input: &[u8], rows: &mut [u8], trace: &mut [u8], output: &mut [u8]) -> usize
-    requires { ⌜ ProgramLends (now rows) (now trace) (now output) ⌝ }
-    ensures { λ r. ⌜ WritesRecord (now (input .entry)) (now (output .entry)) r (now (output .exit)) ⌝ }
-{
-    let answer = lane_library::run_input(input, rows, trace, output);
-    lane_library::count_of(answer)
-}
-
 pub fn run_program(input: &[u8]) -> ProgramOutput
     ensures { λ r. ⌜ Outputs (now (input .entry)) r ⌝ }
 {
     let mut rows = [0u8; ROW_SPACE];
     let mut trace = [0u8; TRACE_SPACE];
     let mut bytes = [0u8; RECORD_BYTES];
-    let count = run(input, &mut rows, &mut trace, &mut bytes);
+    let answer = lane_library::run_input(input, &mut rows, &mut trace, &mut bytes);
     ProgramOutput {
         bytes: bytes,
-        count: count,
+        count: answer.written(),
     }
 }
 

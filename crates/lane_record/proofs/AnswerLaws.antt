@@ -19,8 +19,8 @@ use Rattle.predicate_answer.specs.Blank.{noEvents, maxEvents}
 use Rattle.predicate_semantics.specs.Program.{stop}
 use Rattle.predicate_trace.specs.Trace.{entryBytes, stepValues, traceBytes, stepsAt}
 use Rattle.predicate_trace.proofs.TraceLaws.{length-trace}
-use Rattle.lane_record.specs.declared.RecordRefusal.{RecordRefusal}
-use Rattle.lane_record.specs.declared.RecordAnswer.the-variants as answer
+use Rattle.predicate_answer.specs.declared.RecordRefusal.{RecordRefusal}
+use Rattle.predicate_answer.specs.declared.RecordAnswer.the-variants as answer
 use Rattle.lane_record.specs.declared.ReadAnswer.the-variants as read
 use Rattle.lane_record.specs.declared.RecordReading.{RecordReading}
 use Rattle.lane_record.specs.declared.WriteAnswer.the-variants as write

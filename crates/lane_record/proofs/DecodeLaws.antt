@@ -21,7 +21,7 @@ use Rattle.predicate_answer.specs.declared.PredicateTransducerExecution.{Predic
 use Rattle.predicate_semantics.specs.Program.{stop}
 use Rattle.predicate_trace.specs.Trace.{entryBytes, stepWidths, stepValues, stepOf, stepsAt}
 use Rattle.predicate_trace.proofs.TraceLaws.{steps-values}
-use Rattle.lane_record.specs.declared.RecordRefusal.{RecordRefusal}
+use Rattle.predicate_answer.specs.declared.RecordRefusal.{RecordRefusal}
 use Rattle.lane_record.specs.Format.{Kind, heading, event, step, refusal, kindByte, widths, size, item, items, Record, accepted, refused, executionValues, executionFrom, eventValues, eventFrom, refusalValues, refusalFrom, encode, FitsRecord}
 use Rattle.lane_record.specs.Rules.{executionValid, linked, refusalValid, valid}
 use Rattle.lane_record.specs.Decode.{executionAt, eventsAt, refusalAt, stepsFrom, acceptedAt, kindsAre, itemsAre, acceptedForm, ruled, refusedIn, acceptedIn, decodeRecord}

@@ -13,7 +13,7 @@ use Rattle.little_endian.proofs.NumberLaws.{value-one}
 use Rattle.predicate_answer.specs.declared.CompiledMmioEvent.{CompiledMmioEvent}
 use Rattle.predicate_answer.specs.declared.PredicateTransducerExecution.{PredicateTransducerExecution}
 use Rattle.predicate_trace.specs.Trace.{stepWidths, stepOf}
-use Rattle.lane_record.specs.declared.RecordRefusal.{RecordRefusal}
+use Rattle.predicate_answer.specs.declared.RecordRefusal.{RecordRefusal}
 use Rattle.lane_record.specs.Format.{kindByte, heading, event, refusal, widths, item, executionValues, eventValues, eventFrom, refusalValues}
 use Rattle.lane_record.specs.Decode.{executionAt, refusalAt}
 

@@ -9,7 +9,7 @@ use native.Mathlib.Omega.{arith}
 use lib.Dec.{T, eqb, leb}
 use lib.ListN.{length, take, drop}
 use lib.Seq.{take-append-seam}
-use borrow.Author.Tests.{le-leb, leb-true, eq-eqb}
+use borrow.Author.Tests.{le-leb, eq-eqb}
 use Rattle.little_endian.specs.Lent.{over}
 use Rattle.riscv32imc.specs.Constants.{maxSteps}
 use Rattle.lane_word.specs.Word.{lanes}
@@ -17,28 +17,26 @@ use Rattle.predicate_answer.specs.declared.CompiledMmioEvent.{CompiledMmioEvent
 use Rattle.predicate_trace.specs.declared.PredicateControlStep.{PredicateControlStep}
 use Rattle.lane_word.specs.declared.InputRange.{InputRange}
 use Rattle.lane_word.specs.Range.{inputCount}
-use Rattle.predicate_semantics.specs.declared.Rv32SymbolLayout.{Rv32SymbolLayout}
 use Rattle.predicate_semantics.specs.Program.{Program}
-use Rattle.predicate_answer.specs.Blank.{maxEvents, noEvents, lastRefusal}
+use Rattle.predicate_answer.specs.Blank.{maxEvents, noEvents}
 use Rattle.predicate_semantics.specs.State.{Result}
 use Rattle.predicate_semantics.specs.Tested.{Tested, passed}
-use Rattle.predicate_answer.specs.Refusal.{Refusal}
+use Rattle.predicate_answer.specs.Refusal.{RunRefusal, ofRun, ofCall, refusalAfter}
 use Rattle.predicate_semantics.specs.Tested as Tested
 use Rattle.predicate_semantics.specs.Lane.{LaneState, Setup, Ended}
 use Rattle.predicate_semantics.specs.RecordRules.{Chain, Completed, Accepted, numbersOver, proper}
-use Rattle.predicate_semantics.specs.Standing.{standing}
-use Rattle.predicate_semantics.specs.StandingLanes.{rangeTest, setup, standingLaneRun}
+use Rattle.predicate_semantics.specs.Call.{Call, programIn, setupOf, runOf}
+use Rattle.predicate_semantics.specs.Outcome.{outcomeIn}
 use Rattle.predicate_trace.specs.Trace.{traceBytes}
 use Rattle.predicate_semantics.proofs.RecordRules.{chosen, ordered, execution-over, refused-proper, takes-step}
 use Rattle.predicate_semantics.proofs.RecordRules as Rules
-use Rattle.predicate_semantics.proofs.Always.{no-pass}
-use Rattle.predicate_semantics.proofs.TraceFits.{standing-completed, standing-trace-fits}
+use Rattle.predicate_semantics.proofs.TraceFits.{call-completed, trace-fits}
 use Rattle.lane_record.specs.Format.{accepted, refused}
 use Rattle.lane_record.specs.Rules.{minWrittenBytes, maxWrittenBytes, fewestSteps, begins, linked, refusalValid, valid}
 use Rattle.lane_record.specs.Decode.{ruled}
 use Rattle.lane_record.specs.Answers.{given}
-use Rattle.lane_record.specs.Runs.{hasRecord, refusalIn, recordIn, outcomeIn, KeepsRules}
-use Rattle.lane_record.proofs.TestLaws.{yes, both}
+use Rattle.lane_record.specs.Runs.{recordIn, KeepsRules}
+use Rattle.lane_record.proofs.TestLaws.{yes}
 use Rattle.lane_record.proofs.Theorems.{given-trace}
 
 holds : (b : Bool) → T b → b ≡ true
@@ -66,29 +64,32 @@ some-steps count steps h = go (eqb count 1)
     go true = le-leb 0 steps (omega arith)
     go false = le-leb 1 steps h
 
-module _ (image : List ℕ) (symbols : Rv32SymbolLayout) (range : InputRange) (rows entries : ℕ) where
+module _ (c : Call) where
+  abbrev range : InputRange
+  range = c .range
+
   abbrev p : Program
-  p = standing image symbols
+  p = programIn c
 
   abbrev l : Setup
-  l = setup range rows entries
+  l = setupOf c
 
   abbrev e : Ended
-  e = standingLaneRun image symbols range rows entries
+  e = runOf c
 
   done : Completed p l maxSteps (e .state)
-  done = standing-completed image symbols range rows entries
+  done = call-completed c
 
   abbrev s : LaneState
   s = e .state
 
   module _ (byte : range .last < lanes) (r : Result) (q : e .answer ≡ passed r) where
     ended : Accepted l s r
-    unfolding standingLaneRun
+    unfolding runOf
     ended = Rules.accepted p l maxSteps r q
 
     in-order : range .first ≤ range .last
-    unfolding standingLaneRun setup
+    unfolding runOf setupOf
     in-order = ordered range (chosen p l maxSteps r q)
 
     -- the events by value, zeros after the last
@@ -100,7 +101,7 @@ module _ (image : List ℕ) (symbols : Rv32SymbolLayout) (range : InputRange) (r
     same-events = take-append-seam (r .events) (drop (length (r .events)) noEvents)
 
     least : leb (fewestSteps (inputCount range)) (r .steps) ≡ true
-    least = ⊎-elim (some-steps (inputCount range) (r .steps)) (λ one. rw one (le-leb 0 (r .steps) (omega arith))) (takes-step image symbols range rows entries r q)
+    least = ⊎-elim (some-steps (inputCount range) (r .steps)) (λ one. rw one (le-leb 0 (r .steps) (omega arith))) (takes-step c r q)
 
     rules : valid (accepted (numbersOver range (s .steps) (length (s .memory)) r) events (s .trace)) ≡ true
     rules =
@@ -117,49 +118,22 @@ module _ (image : List ℕ) (symbols : Rv32SymbolLayout) (range : InputRange) (r
         (subst (λ (x : ℕ). linked x (s .trace) ≡ true) (ended .arrived) (linked-chain _ _ (s .trace) (done .chain)))
 
     kept-accepted : (t : List ℕ)
-        → given (outcomeIn image symbols range rows entries s (passed r)) (over (traceBytes (s .trace)) t)
-        ≡ some (recordIn image symbols range rows entries s (passed r))
+        → given (outcomeIn c s (passed r)) (over (traceBytes (s .trace)) t) ≡ recordIn c s (passed r)
     unfolding events
     kept-accepted t =
-        rw (execution-over p range rows entries s r in-order)
-        (given-trace (numbersOver range (s .steps) (length (s .memory)) r) (over (r .events) noEvents) (s .trace) t (standing-trace-fits image symbols range rows entries) rules
+        rw (execution-over c s r in-order)
+        (given-trace (numbersOver range (s .steps) (length (s .memory)) r) (over (r .events) noEvents) (s .trace) t (trace-fits c) rules
         ∙ ap (λ (x : List CompiledMmioEvent). some (accepted (numbersOver range (s .steps) (length (s .memory)) r) x (s .trace))) same-events
         ∙ ap (λ (x : List PredicateControlStep). some (accepted (numbersOver range (s .steps) (length (s .memory)) r) (r .events) x)) (ended .trace))
 
-  -- the caller's choice of a range is refused with a number that no record holds
-  not-chosen : (f : Refusal) → leb (f .number) lastRefusal ≡ true → l .choice ≡ Tested.refused f → ⊥
-  unfolding setup rangeTest Tested.require Tested.refuse
-  not-chosen f few = go (leb (range .first) (range .last))
-    where
-      go : (b : Bool) → Tested.require 17 b ≡ Tested.refused f → ⊥
-      go true c = no-pass (sym c)
-      go false c = let e : f .number ≡ 17 = cc in omega (arith, e, leb-true (f .number) lastRefusal few)
+  kept-refused : (q : RunRefusal) → e .answer ≡ Tested.refused (ofRun q) → refusalValid (refusalAfter q (s .steps)) ≡ true
+  unfolding runOf proper
+  kept-refused q h = yes {t = proper q} (holds (proper q) (refused-proper p l maxSteps (ofRun q) h)) (le-leb (s .steps) maxSteps (omega (arith, done .bound)))
 
-  kept-refused : (f : Refusal) → e .answer ≡ Tested.refused f → leb (f .number) lastRefusal ≡ true → refusalValid (refusalIn image symbols range rows entries s f) ≡ true
-  unfolding standingLaneRun proper
-  kept-refused f q few =
-      ⊎-elim (λ t. yes {t = proper f} (holds (proper f) t) (le-leb (s .steps) maxSteps (omega (arith, done .bound))))
-      (λ c. absurd (not-chosen f few c)) (refused-proper p l maxSteps f q)
+  kept : range .last < lanes → (a : Tested Result) → e .answer ≡ a → (t : List ℕ) → given (outcomeIn c s a) (over (traceBytes (s .trace)) t) ≡ recordIn c s a
+  kept byte (passed r) q t = kept-accepted byte r q t
+  kept byte (Tested.refused (ofRun f)) q t = ap (λ (w : Bool). ruled w (refused (refusalAfter f (s .steps)))) (kept-refused f q)
+  kept byte (Tested.refused (ofCall x)) q t = refl
 
-  kept : range .last < lanes → (a : Tested Result) → e .answer ≡ a → hasRecord a ≡ true → (t : List ℕ)
-      → given (outcomeIn image symbols range rows entries s a) (over (traceBytes (s .trace)) t) ≡ some (recordIn image symbols range rows entries s a)
-  kept byte (passed r) q h t = kept-accepted byte r q t
-  kept byte (Tested.refused f) q h t =
-      ap (λ (w : Bool). ruled w (refused (refusalIn image symbols range rows entries s f))) (kept-refused f q h)
-
-  pub keeps-rules : KeepsRules image symbols range rows entries
-  keeps-rules byte h t = kept byte (e .answer) refl h t
-
-  -- a run over a range in order has a record
-  few : (f : Refusal) → T (proper f) → leb (f .number) lastRefusal ≡ true
-  unfolding proper
-  few f t = both (leb 1 (f .number)) _ (both _ _ (holds (proper f) t) .0) .1
-
-  has-record-by : l .choice ≡ passed tt → (a : Tested Result) → e .answer ≡ a → hasRecord a ≡ true
-  unfolding standingLaneRun
-  has-record-by c (passed r) q = refl
-  has-record-by c (Tested.refused f) q = ⊎-elim (few f) (λ g. absurd (no-pass (sym g ∙ c))) (refused-proper p l maxSteps f q)
-
-  pub has-record : rangeTest range ≡ passed tt → hasRecord (e .answer) ≡ true
-  unfolding standingLaneRun setup
-  has-record c = has-record-by c (e .answer) refl
+  pub keeps-rules : KeepsRules c
+  keeps-rules byte t = kept byte (e .answer) refl t

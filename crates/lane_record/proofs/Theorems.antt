@@ -19,14 +19,15 @@ use Rattle.predicate_answer.specs.declared.PredicateTransducerExecution.{Predic
 use Rattle.predicate_answer.specs.Blank.{noEvents}
 use Rattle.predicate_trace.specs.Trace.{entryBytes, stepWidths, stepValues, traceBytes, stepsAt}
 use Rattle.predicate_trace.proofs.TraceLaws.{length-trace, trace-back}
-use Rattle.lane_record.specs.declared.RecordRefusal.{RecordRefusal}
-use Rattle.lane_record.specs.declared.RecordAnswer.{RecordAnswer}
-use Rattle.lane_record.specs.declared.RecordAnswer.the-variants as answer
-use Rattle.lane_record.specs.declared.RecordOutcome.{RecordOutcome}
+use Rattle.predicate_answer.specs.declared.RecordRefusal.{RecordRefusal}
+use Rattle.predicate_answer.specs.declared.RecordAnswer.{RecordAnswer}
+use Rattle.predicate_answer.specs.declared.RecordAnswer.the-variants as answer
+use Rattle.predicate_answer.specs.declared.RecordOutcome.{RecordOutcome}
 use Rattle.lane_record.specs.Format.{step, widths, Record, accepted, refused, encode, FitsRecord}
 use Rattle.lane_record.specs.Rules.{link, linked, valid}
 use Rattle.lane_record.specs.Decode.{ruled, decodeRecord}
-use Rattle.lane_record.specs.Answers.{Said, done, wrote, refuses, noOutcome, refusedOutcome, acceptedOutcome, readAnswer, readOutcome, readTrace, acceptedGiven, givenAccepted, givenRefused, givenBy, given, writeAnswer, writeOutput}
+use Rattle.lane_record.specs.Answers.{Said, done, wrote, refuses, readAnswer, readOutcome, readTrace, acceptedGiven, givenAccepted, givenRefused, givenBy, given, writeAnswer, writeOutput}
+use Rattle.predicate_answer.specs.Outcome.{noOutcome, refusedOutcome, acceptedOutcome}
 use Rattle.lane_record.specs.RoundTrip.{whatCountsBy, entriesBy, FitsBy, ReadBack, Rewritten}
 use Rattle.lane_record.proofs.TestLaws.{both, yes}
 use Rattle.lane_record.proofs.DecodeLaws.{ruled-some, values-steps, steps-fit, rules, decode-encode, decode-same}

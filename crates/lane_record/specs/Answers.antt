@@ -9,12 +9,12 @@ use lib.ListN.{length, take}
 use Rattle.little_endian.specs.Lent.{over}
 use Rattle.predicate_answer.specs.declared.CompiledMmioEvent.{CompiledMmioEvent}
 use Rattle.predicate_answer.specs.declared.PredicateTransducerExecution.{PredicateTransducerExecution}
-use Rattle.predicate_answer.specs.Blank.{noExecution, noEvents}
+use Rattle.predicate_answer.specs.Outcome.{acceptedOutcome, refusedOutcome, noOutcome}
 use Rattle.predicate_trace.specs.Trace.{entryBytes, traceBytes, stepsAt}
-use Rattle.lane_record.specs.declared.RecordRefusal.{RecordRefusal}
-use Rattle.lane_record.specs.declared.RecordAnswer.{RecordAnswer}
-use Rattle.lane_record.specs.declared.RecordAnswer.the-variants as answer
-use Rattle.lane_record.specs.declared.RecordOutcome.{RecordOutcome}
+use Rattle.predicate_answer.specs.declared.RecordRefusal.{RecordRefusal}
+use Rattle.predicate_answer.specs.declared.RecordAnswer.{RecordAnswer}
+use Rattle.predicate_answer.specs.declared.RecordAnswer.the-variants as answer
+use Rattle.predicate_answer.specs.declared.RecordOutcome.{RecordOutcome}
 use Rattle.lane_record.specs.declared.ReadAnswer.{ReadAnswer}
 use Rattle.lane_record.specs.declared.ReadAnswer.the-variants as read
 use Rattle.lane_record.specs.declared.RecordReading.{RecordReading}
@@ -44,19 +44,10 @@ writeSaid write.OutputTooShort = refuses 16
 
 -- ---- results
 
-abbrev pub refusedOutcome : RecordRefusal → RecordOutcome
-refusedOutcome f = record { answer = answer.Refused f; execution = noExecution; events = noEvents }
-
-abbrev pub acceptedOutcome : PredicateTransducerExecution → List CompiledMmioEvent → RecordOutcome
-acceptedOutcome e es = record { answer = answer.Accepted; execution = e; events = over es noEvents }
-
--- what the reader gives beside a refusal of its own: nothing, and 0 as a refusal's number
-abbrev pub noOutcome : RecordOutcome
-noOutcome = refusedOutcome (record { number = 0; role = 0; steps = 0 })
-
 abbrev pub refusedReading : ReadAnswer → RecordRefusal → RecordReading
 refusedReading a f = record { answer = a; outcome = refusedOutcome f }
 
+-- where nothing is read, there is no outcome
 abbrev pub nothingRead : ReadAnswer → RecordReading
 nothingRead a = record { answer = a; outcome = noOutcome }
 

@@ -9,7 +9,7 @@ use Rattle.little_endian.specs.Pack.{unpack, unpacks}
 use Rattle.predicate_answer.specs.declared.CompiledMmioEvent.{CompiledMmioEvent}
 use Rattle.predicate_answer.specs.declared.PredicateTransducerExecution.{PredicateTransducerExecution}
 use Rattle.predicate_trace.specs.Trace.{stepsAt}
-use Rattle.lane_record.specs.declared.RecordRefusal.{RecordRefusal}
+use Rattle.predicate_answer.specs.declared.RecordRefusal.{RecordRefusal}
 use Rattle.lane_record.specs.Format.{Kind, heading, event, step, refusal, kindByte, widths, size, Record, accepted, refused, executionFrom, eventFrom, refusalFrom}
 use Rattle.lane_record.specs.Rules.{valid}
 

@@ -7,7 +7,7 @@ use Rattle.predicate_trace.specs.declared.PredicateControlStep.{PredicateContro
 use Rattle.predicate_answer.specs.declared.CompiledMmioEvent.{CompiledMmioEvent}
 use Rattle.predicate_answer.specs.declared.PredicateTransducerExecution.{PredicateTransducerExecution}
 use Rattle.predicate_trace.specs.Trace.{stepWidths, stepValues}
-use Rattle.lane_record.specs.declared.RecordRefusal.{RecordRefusal}
+use Rattle.predicate_answer.specs.declared.RecordRefusal.{RecordRefusal}
 
 pub data Kind : Type 0 where
   heading event step refusal : Kind

@@ -8,13 +8,14 @@ use Rattle.little_endian.specs.Pack.{Fits, AllFit}
 use Rattle.little_endian.specs.Lent.{over}
 use Rattle.predicate_answer.specs.declared.CompiledMmioEvent.{CompiledMmioEvent}
 use Rattle.predicate_answer.specs.declared.PredicateTransducerExecution.{PredicateTransducerExecution}
-use Rattle.lane_record.specs.declared.RecordAnswer.{RecordAnswer}
-use Rattle.lane_record.specs.declared.RecordAnswer.the-variants as answer
-use Rattle.lane_record.specs.declared.RecordOutcome.{RecordOutcome}
+use Rattle.predicate_answer.specs.declared.RecordAnswer.{RecordAnswer}
+use Rattle.predicate_answer.specs.declared.RecordAnswer.the-variants as answer
+use Rattle.predicate_answer.specs.declared.RecordOutcome.{RecordOutcome}
 use Rattle.predicate_trace.specs.Trace.{entryBytes}
 use Rattle.lane_record.specs.Format.{heading, event, refusal, widths, executionValues, eventValues, refusalValues}
 use Rattle.lane_record.specs.Decode.{decodeRecord}
-use Rattle.lane_record.specs.Answers.{done, wrote, refusedOutcome, acceptedOutcome, readAnswer, readOutcome, readTrace, given, writeAnswer, writeOutput}
+use Rattle.lane_record.specs.Answers.{done, wrote, readAnswer, readOutcome, readTrace, given, writeAnswer, writeOutput}
+use Rattle.predicate_answer.specs.Outcome.{refusedOutcome, acceptedOutcome}
 
 -- what counts of an outcome: the first `event_count` events; after a refusal the answer alone
 abbrev pub whatCountsBy : RecordAnswer → PredicateTransducerExecution → List CompiledMmioEvent → RecordOutcome

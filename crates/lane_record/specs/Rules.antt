@@ -10,7 +10,7 @@ use Rattle.predicate_trace.specs.declared.PredicateControlStep.{PredicateContro
 use Rattle.predicate_answer.specs.declared.PredicateTransducerExecution.{PredicateTransducerExecution}
 use Rattle.predicate_semantics.specs.Program.{stop}
 use Rattle.predicate_answer.specs.Blank.{maxEvents, lastRefusal, lastRole}
-use Rattle.lane_record.specs.declared.RecordRefusal.{RecordRefusal}
+use Rattle.predicate_answer.specs.declared.RecordRefusal.{RecordRefusal}
 use Rattle.lane_record.specs.Format.{Record, accepted, refused}
 
 -- from low to high, both of them too

@@ -1,5 +1,4 @@
 // The bodies of a record's items, read and written at their places.
-use super::RecordRefusal;
 use little_endian::get_u8;
 use little_endian::get_u16;
 use little_endian::get_u32;
@@ -9,6 +8,7 @@ use little_endian::put_u32;
 use little_endian::word;
 use predicate_answer::CompiledMmioEvent;
 use predicate_answer::PredicateTransducerExecution;
+use predicate_answer::RecordRefusal;
 use predicate_trace::ENTRY_BYTES;
 use predicate_trace::PredicateControlStep;
 ghost use mathlib.Core.Path.{_≡_};

@@ -11,31 +11,10 @@ pub use items::HEADING_BYTES;
 pub use items::REFUSAL_BYTES;
 pub use items::STEP;
 pub use items::STEP_BYTES;
-use predicate_answer::CompiledMmioEvent;
-use predicate_answer::MAX_EVENTS;
-use predicate_answer::PredicateTransducerExecution;
+use predicate_answer::RecordAnswer;
+use predicate_answer::RecordOutcome;
 ghost use Rattle.lane_record.specs.Decode.{decodeRecord};
 ghost use Rattle.lane_record.specs.Answers.{Reads, Exact, Writes, given};
-
-// A run's refusal as an item 7F holds it.
-pub struct RecordRefusal {
-    pub number: u8,
-    pub role: u8,
-    pub steps: u32,
-}
-
-// What a run answers.
-pub enum RecordAnswer {
-    Accepted,
-    Refused(RecordRefusal),
-}
-
-// A run's result, beside its trace. Of the events the first `event_count` count; after a refusal only the answer does.
-pub struct RecordOutcome {
-    pub answer: RecordAnswer,
-    pub execution: PredicateTransducerExecution,
-    pub events: [CompiledMmioEvent; MAX_EVENTS],
-}
 
 // What the reader answers: the record is read, or 15, or 14.
 pub enum ReadAnswer {

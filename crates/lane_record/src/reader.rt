@@ -1,9 +1,6 @@
 // Reading: every rule is tested before anything is written.
 use super::ReadAnswer;
-use super::RecordAnswer;
-use super::RecordOutcome;
 use super::RecordReading;
-use super::RecordRefusal;
 use super::items::EVENT;
 use super::items::EVENT_BYTES;
 use super::items::HEADING;
@@ -22,6 +19,9 @@ use super::rules::steps_linked;
 use predicate_answer::CompiledMmioEvent;
 use predicate_answer::MAX_EVENTS;
 use predicate_answer::PredicateTransducerExecution;
+use predicate_answer::RecordAnswer;
+use predicate_answer::RecordOutcome;
+use predicate_answer::RecordRefusal;
 use predicate_trace::ENTRY_BYTES;
 use predicate_trace::put_entry;
 ghost use mathlib.Core.Path.{_≡_};
@@ -112,11 +112,7 @@ fn take_steps(trace: &mut [u8], s: &[u8], start: usize, n: usize)
 fn refused_reading(answer: ReadAnswer, f: RecordRefusal) -> RecordReading
     ensures { λ r. ⌜ r ≡ refusedReading answer f ⌝ }
 {
-    let outcome = RecordOutcome {
-        answer: RecordAnswer::Refused(f),
-        execution: predicate_answer::no_execution(),
-        events: predicate_answer::no_events(),
-    };
+    let outcome = predicate_answer::refused_outcome(f);
     RecordReading {
         answer: answer,
         outcome: outcome,
@@ -126,14 +122,11 @@ fn refused_reading(answer: ReadAnswer, f: RecordRefusal) -> RecordReading
 fn nothing_read(answer: ReadAnswer) -> RecordReading
     ensures { λ r. ⌜ r ≡ nothingRead answer ⌝ }
 {
-    refused_reading(
-        answer,
-        RecordRefusal {
-            number: 0,
-            role: 0,
-            steps: 0,
-        },
-    )
+    let outcome = predicate_answer::no_outcome();
+    RecordReading {
+        answer: answer,
+        outcome: outcome,
+    }
 }
 
 // 15 before 14: a trace is too short only for a record.

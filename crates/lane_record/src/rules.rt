@@ -1,5 +1,4 @@
 // The record's rules, as tests.
-use super::RecordRefusal;
 use super::items::step_at;
 use super::items::word_at;
 use lane_word::LaneWord;
@@ -7,6 +6,7 @@ use predicate_answer::LAST_REFUSAL;
 use predicate_answer::LAST_ROLE;
 use predicate_answer::MAX_EVENTS;
 use predicate_answer::PredicateTransducerExecution;
+use predicate_answer::RecordRefusal;
 use predicate_semantics::STOP;
 use predicate_trace::ENTRY_BYTES;
 use predicate_trace::PredicateControlStep;

@@ -1,5 +1,4 @@
 // Writing: the rules and then the output's length are tested before anything is written.
-use super::RecordRefusal;
 use super::WriteAnswer;
 use super::items::EVENT_BYTES;
 use super::items::HEADING_BYTES;
@@ -17,6 +16,7 @@ use super::rules::steps_linked;
 use predicate_answer::CompiledMmioEvent;
 use predicate_answer::MAX_EVENTS;
 use predicate_answer::PredicateTransducerExecution;
+use predicate_answer::RecordRefusal;
 use predicate_trace::ENTRY_BYTES;
 use predicate_trace::put_entry;
 ghost use mathlib.Core.Path.{_≡_};

@@ -1,7 +1,8 @@
 // What a run answers: its numbers and events, or a refusal with its number, role and text; and the zeros that stand where there is nothing.
 ghost use mathlib.Core.Path.{_≡_};
-ghost use Rattle.predicate_answer.specs.Refusal.{roleOf, refusalOf};
+ghost use Rattle.predicate_answer.specs.Refusal.{roleOf, runRefusal, refusalAfter, callNumber};
 ghost use Rattle.predicate_answer.specs.Blank.{noExecution, noEvent, noEvents};
+ghost use Rattle.predicate_answer.specs.Outcome.{refusedOutcome, noOutcome};
 
 // One event, with the program counter of the SW that recorded it.
 pub struct CompiledMmioEvent {
@@ -39,7 +40,7 @@ pub enum Role {
     EventValue,
 }
 
-// The refusals of a run.
+// The refusals of a run, which its record holds.
 pub enum Rv32Error {
     ImageSize,
     SymbolOutside,
@@ -55,15 +56,46 @@ pub enum Rv32Error {
     EventCount,
     NoRow,
     NoTraceEntry,
+}
+
+// The refusals of a call for what its caller chose, which no record holds.
+pub enum CallError {
     FirstAboveLast,
 }
 
-// The last number of the refusals that a record holds, and the last role; both begin at 1. The numbers after it are answers without a record.
+// Whether a call is refused for what its caller chose.
+pub enum CallVerdict {
+    Passed,
+    Refused(CallError),
+}
+
+// A run's refusal as an item 7F holds it.
+pub struct RecordRefusal {
+    pub number: u8,
+    pub role: u8,
+    pub steps: u32,
+}
+
+// A run's answer as its record has it.
+pub enum RecordAnswer {
+    Accepted,
+    Refused(RecordRefusal),
+}
+
+// What a run answers beside its trace, and a record is written of and read as. Of the events the first `event_count` count; after a refusal only
+// the answer does.
+pub struct RecordOutcome {
+    pub answer: RecordAnswer,
+    pub execution: PredicateTransducerExecution,
+    pub events: [CompiledMmioEvent; MAX_EVENTS],
+}
+
+// The last number of the refusals that a record holds, and the last role; both begin at 1.
 pub const LAST_REFUSAL: u32 = 14;
 
 pub const LAST_ROLE: u32 = 10;
 
-// Each refusal in words, from number 1 on, after a stroke; 15 and 16 are what a record's reader and writer refuse with, and 17 is a run's again.
+// Each refusal in words, from number 1 on, after a stroke; 15 and 16 are what a record's reader and writer refuse with, and 17 is a call's.
 pub const REFUSAL_TEXTS: [u8; 478] = *b"|the image is empty or too large\
 |a symbol lies outside memory\
 |not at stop after 1,000,000 steps\
@@ -115,7 +147,7 @@ impl Role {
 
 impl Rv32Error {
     pub fn number(self) -> u8
-        ensures { λ r. ⌜ r ≡ refusalOf self .number ⌝ }
+        ensures { λ r. ⌜ r ≡ runRefusal self .number ⌝ }
     {
         match self {
             Rv32Error::ImageSize => 1,
@@ -132,13 +164,12 @@ impl Rv32Error {
             Rv32Error::EventCount => 12,
             Rv32Error::NoRow => 13,
             Rv32Error::NoTraceEntry => 14,
-            Rv32Error::FirstAboveLast => 17,
         }
     }
 
     // 0 where the refusal has none.
     pub fn role(self) -> u8
-        ensures { λ r. ⌜ r ≡ refusalOf self .role ⌝ }
+        ensures { λ r. ⌜ r ≡ runRefusal self .role ⌝ }
     {
         match self {
             Rv32Error::ImageSize => 0,
@@ -155,7 +186,27 @@ impl Rv32Error {
             Rv32Error::EventCount => 0,
             Rv32Error::NoRow => 0,
             Rv32Error::NoTraceEntry => 0,
-            Rv32Error::FirstAboveLast => 0,
+        }
+    }
+
+    // As a record holds it, after so many completed steps.
+    pub fn after(self, steps: u32) -> RecordRefusal
+        ensures { λ r. ⌜ r ≡ refusalAfter (runRefusal self) steps ⌝ }
+    {
+        RecordRefusal {
+            number: self.number(),
+            role: self.role(),
+            steps: steps,
+        }
+    }
+}
+
+impl CallError {
+    pub fn number(self) -> u8
+        ensures { λ r. ⌜ r ≡ callNumber self ⌝ }
+    {
+        match self {
+            CallError::FirstAboveLast => 17,
         }
     }
 }
@@ -189,4 +240,27 @@ pub fn no_events() -> [CompiledMmioEvent; MAX_EVENTS]
     ensures { λ r. ⌜ r ≡ noEvents ⌝ }
 {
     [no_event(); MAX_EVENTS]
+}
+
+// What a refused run answers.
+pub fn refused_outcome(refusal: RecordRefusal) -> RecordOutcome
+    ensures { λ r. ⌜ r ≡ refusedOutcome refusal ⌝ }
+{
+    RecordOutcome {
+        answer: RecordAnswer::Refused(refusal),
+        execution: no_execution(),
+        events: no_events(),
+    }
+}
+
+// What stands where there is no answer: a refusal numbered 0.
+pub fn no_outcome() -> RecordOutcome
+    ensures { λ r. ⌜ r ≡ noOutcome ⌝ }
+{
+    let refusal = RecordRefusal {
+        number: 0,
+        role: 0,
+        steps: 0,
+    };
+    refused_outcome(refusal)
 }

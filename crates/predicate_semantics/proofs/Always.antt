@@ -6,7 +6,7 @@ use Prim.Native.Nat.{ℕ}
 use lib.Dec.{T}
 use Rattle.predicate_semantics.specs.Choice.{choose}
 use Rattle.predicate_semantics.specs.Tested.{Tested, passed, refused, refuse, require, found, _>>=_}
-use Rattle.predicate_answer.specs.Refusal.{Refusal}
+use Rattle.predicate_answer.specs.Refusal.{Refusal, ofRun}
 
 pub data Always {A : Type 0} (R : Refusal → Type 0) (P : A → Type 0) : Tested A → Type 0 where
   stops : (r : Refusal) → R r → Always R P (refused r)
@@ -22,7 +22,7 @@ no-pass q = subst Passes (sym q) tt
 
 -- the refusal of a number without a role
 abbrev pub plain : ℕ → Refusal
-plain number = record { number = number; role = 0 }
+plain number = ofRun (record { number = number; role = 0 })
 
 module _ {R : Refusal → Type 0} where
   pub bind : {A B : Type 0} {P : A → Type 0} {Q : B → Type 0} {m : Tested A} {f : A → Tested B}

@@ -15,11 +15,11 @@ use Rattle.lane_word.specs.Range.{invalidChannels}
 use Rattle.predicate_trace.specs.declared.PredicateControlStep.{PredicateControlStep}
 use Rattle.predicate_semantics.specs.Program.{Program, sized, inMemory, symbolsPlaced}
 use Rattle.predicate_semantics.specs.State.{sets, assign, advanced, apply}
-use Rattle.predicate_semantics.specs.Tested.{passed, refuse, require, _>>=_}
+use Rattle.predicate_semantics.specs.Tested.{passed, refuse, require, allow, _>>=_}
 use Rattle.predicate_semantics.specs.Lane.{LaneState, Setup, Ended, on, laneCount, attempt, step, run, startTests, begin, start, laneRun}
-use Rattle.predicate_semantics.specs.Standing.{standing}
-use Rattle.predicate_semantics.specs.StandingLanes.{rangeTest, setup, standingLaneRun}
-use Rattle.predicate_semantics.specs.Cases.{symbols, refuses, meets, holds}
+use Rattle.predicate_semantics.specs.Standing.{programOf}
+use Rattle.predicate_semantics.specs.Call.{Call, rangeTest, programIn, setupOf, runOf}
+use Rattle.predicate_semantics.specs.Cases.{symbols, calling, refuses, meets, holds}
 use Rattle.predicate_semantics.specs.Bound.{RefusedAtBound, StepBound}
 use Rattle.predicate_semantics.proofs.Laws.{run-out, run-next}
 use Rattle.predicate_semantics.proofs.Computing.{expansion, decoding, words, running}
@@ -30,11 +30,14 @@ abbrev jump-to-itself : ℕ → Fetched
 jump-to-itself bytes = record { operation = Jal (record { rd = 0; imm = 0 }); length = bytes; word = 0x6F }
 
 module _ (image : List ℕ) (rows entries : ℕ) where
+  abbrev called : Call
+  called = calling image imageBase invalidChannels rows entries
+
   abbrev p : Program
-  p = standing image (symbols imageBase)
+  p = programIn called
 
   abbrev l : Setup
-  l = setup invalidChannels rows entries
+  l = setupOf called
 
   -- the run's first state, some steps and their trace later
   abbrev spun : ℕ → List PredicateControlStep → LaneState
@@ -53,7 +56,7 @@ module _ (image : List ℕ) (rows entries : ℕ) where
         → attempt p l (spun n trace) ≡ passed (record { fetched = jump-to-itself bytes; effect = sets 0 (constant (laneCount p l) (add imageBase bytes)) imageBase })
 
   starts : sized (length image) ≡ true → 4 ≤ rows → start p l ≡ passed (spun 0 [])
-  unfolding start startTests symbolsPlaced inMemory require _>>=_ begin standing rangeTest setup symbols
+  unfolding start startTests symbolsPlaced inMemory require _>>=_ allow begin programOf rangeTest setupOf calling symbols
   starts small lent = rw (small, le-leb 4 rows lent)
 
   module _ {bytes : ℕ} (spins : Spins bytes) where
@@ -66,7 +69,7 @@ module _ (image : List ℕ) (rows entries : ℕ) where
     }
 
     step-spun : (n : ℕ) (trace : List PredicateControlStep) → n < entries → step p l (spun n trace) ≡ passed (spun (suc n) (trace ++ entry ∷ []))
-    unfolding step require _>>=_ apply advanced assign setup
+    unfolding step require _>>=_ apply advanced assign setupOf calling
     step-spun n trace h = rw (spins .again n trace, lt-ltb n entries h)
 
     run-spun : (limit n : ℕ) (trace : List PredicateControlStep) → n + limit ≤ entries
@@ -82,18 +85,18 @@ unfolding meets refuse
 refused-after e steps answer counted = rw (answer, counted, eq-eqb steps steps refl)
 
 refused-at-bound : (image : List ℕ) (bytes : ℕ) → sized (length image) ≡ true → ((rows entries : ℕ) → Spins image rows entries bytes) → RefusedAtBound image
-unfolding holds standingLaneRun laneRun on
+unfolding holds runOf laneRun on
 refused-at-bound image bytes small spins rows entries lent enough =
     let ends = run-spun image rows entries (spins rows entries) 1000000 0 [] (omega arith) in
     rw (starts image rows entries small lent)
     (refused-after (run (p image rows entries) (l image rows entries) 1000000 (spun image rows entries 0 [])) 1000000 (ends .0) (omega (arith, ends .1)))
 
 jal-spins : (rows entries : ℕ) → Spins (0x6F ∷ 0x00 ∷ 0x00 ∷ 0x00 ∷ []) rows entries 4
-unfolding expansion decoding words running Computing.standing symbols
+unfolding expansion decoding words running Computing.calls symbols calling
 jal-spins rows entries = record { again = λ n trace. refl }
 
 c-j-spins : (rows entries : ℕ) → Spins (0x01 ∷ 0xA0 ∷ []) rows entries 2
-unfolding expansion decoding words running Computing.standing symbols
+unfolding expansion decoding words running Computing.calls symbols calling
 c-j-spins rows entries = record { again = λ n trace. refl }
 
 pub step-bound : StepBound

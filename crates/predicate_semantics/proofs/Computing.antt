@@ -15,7 +15,7 @@ use Rattle.predicate_semantics.specs.Tested as Tested
 use Rattle.predicate_semantics.specs.Lane as Lane
 use Rattle.predicate_semantics.specs.Scalar as Scalar
 use Rattle.predicate_semantics.specs.Standing as Standing
-use Rattle.predicate_semantics.specs.StandingLanes as StandingLanes
+use Rattle.predicate_semantics.specs.Call as Call
 
 unfoldable pub expansion : Unit {0}
 unfolding Bits.signExtend Expansion.expand Expansion.quadrant0 Expansion.quadrant1 Expansion.place Expansion.cArithmetic Expansion.cOperations Expansion.quadrant2 Expansion.cRegisters
@@ -30,13 +30,13 @@ unfolding Word.unknown Word.constant Word.domain Word.zip Word.unary Word.binary
 words = tt
 
 unfoldable pub running : Unit {0}
-unfolding Choice.choose Meaning.meaning Program.initial Program.sized Program.inMemory Program.symbolsPlaced State.fill State.atStart State.assign State.recorded State.advanced State.apply Memory.byteAt Memory.laneBytes Memory.put Memory.read Memory.write Tested._>>=_ Tested.refuse Tested.require Tested.found Lane.inside Lane.on Lane.laneCount Lane.memoryOf Lane.agreed Lane.startTests Lane.roomFor Lane.decodeWord Lane.expandHalfword Lane.access Lane.accessAgreed Lane.fetchFour Lane.fetch Lane.eventAt Lane.reg Lane.execute Lane.attempt Lane.step Lane.events Lane.finishEvents Lane.finish Lane.run Lane.begin Lane.start Lane.laneRun
+unfolding Choice.choose Meaning.meaning Program.initial Program.sized Program.inMemory Program.symbolsPlaced State.fill State.atStart State.assign State.recorded State.advanced State.apply Memory.byteAt Memory.laneBytes Memory.put Memory.read Memory.write Tested._>>=_ Tested.refuse Tested.require Tested.allow Tested.found Lane.inside Lane.on Lane.laneCount Lane.memoryOf Lane.agreed Lane.startTests Lane.roomFor Lane.decodeWord Lane.expandHalfword Lane.access Lane.accessAgreed Lane.fetchFour Lane.fetch Lane.eventAt Lane.reg Lane.execute Lane.attempt Lane.step Lane.events Lane.finishEvents Lane.finish Lane.run Lane.begin Lane.start Lane.laneRun
 running = tt
 
 unfoldable pub scalar : Unit {0}
 unfolding Scalar._>>=_ Scalar.require Scalar.put Scalar.read Scalar.write Scalar.inside Scalar.startTests Scalar.roomFor Scalar.access Scalar.eventAt Scalar.reg Scalar.decodeWord Scalar.expandHalfword Scalar.fetchFour Scalar.fetch Scalar.execute Scalar.attempt Scalar.step Scalar.events Scalar.finish Scalar.run Scalar.start Scalar.scalarRun
 scalar = tt
 
-unfoldable pub standing : Unit {0}
-unfolding Standing.expandedWord Standing.decodedOperation Standing.standingCore Standing.standing StandingLanes.rangeTest StandingLanes.setup StandingLanes.standingLaneRun Standing.standingScalarRun
-standing = tt
+unfoldable pub calls : Unit {0}
+unfolding Standing.expandedWord Standing.decodedOperation Standing.standingCore Standing.programOf Call.rangeTest Call.setupOf Call.runOf Standing.scalarAnswer
+calls = tt

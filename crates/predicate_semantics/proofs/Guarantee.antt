@@ -13,8 +13,8 @@ use Rattle.predicate_semantics.specs.Choice.{choose}
 use Rattle.predicate_semantics.specs.Tested.{Tested, passed, refused, ifPassed}
 use Rattle.predicate_semantics.specs.Lane.{LaneState, Setup, on, laneCount, memoryOf, step, run, after, begin, start, reached, laneRun}
 use Rattle.predicate_semantics.specs.Scalar.{ScalarState}
-use Rattle.predicate_semantics.specs.Standing.{standing, standingScalarRun}
-use Rattle.predicate_semantics.specs.StandingLanes.{setup, standingLaneRun}
+use Rattle.predicate_semantics.specs.Standing.{scalarAnswer}
+use Rattle.predicate_semantics.specs.Call.{programIn, setupOf, runOf}
 use Rattle.predicate_semantics.specs.Guarantee.{SameAsLane, PrefixGuarantee, CompletedGuarantee, AcceptanceGuarantee, Guarantee}
 use Rattle.predicate_semantics.proofs.Sim.{answered}
 use Rattle.predicate_semantics.proofs.Laws.{run-stop, run-out, run-next, run-refused, step-steps}
@@ -88,7 +88,7 @@ inputs-at first (suc count) zero h = ap some (omega arith)
 inputs-at first (suc count) (suc k) h = inputs-at (suc first) count k (omega arith) ∙ ap some (omega arith)
 
 pub guarantee : Guarantee
-unfolding setup standingLaneRun standingScalarRun
-guarantee image symbols range rows entries r e input low high others =
-    acceptance-guarantee (standing image symbols) (setup range rows entries) maxSteps r e (input - range .first) input
-    (inputs-at (range .first) (inputCount range) (input - range .first) (omega arith) ∙ ap some (omega arith)) others
+unfolding setupOf runOf scalarAnswer
+guarantee c r e input low high others =
+    acceptance-guarantee (programIn c) (setupOf c) maxSteps r e (input - c .range .first) input
+    (inputs-at (c .range .first) (inputCount (c .range)) (input - c .range .first) (omega arith) ∙ ap some (omega arith)) others

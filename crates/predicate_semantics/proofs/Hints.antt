@@ -30,7 +30,7 @@ use Rattle.predicate_action.specs.Meaning.{meaning}
 use Rattle.predicate_semantics.specs.Choice.{choose}
 use Rattle.predicate_semantics.specs.Program.{Program}
 use Rattle.predicate_semantics.specs.State.{sets, assign, advanced, apply}
-use Rattle.predicate_semantics.specs.Standing.{expandedWord, decodedOperation, standingCore, standing}
+use Rattle.predicate_semantics.specs.Standing.{expandedWord, decodedOperation, standingCore, programOf}
 use Rattle.predicate_semantics.specs.Tested.{passed, found, require, _>>=_}
 use Rattle.predicate_semantics.specs.Scalar as Scalar
 use Rattle.predicate_semantics.specs.Lane as Lane
@@ -115,15 +115,15 @@ expands-two h w e = go (eqb (h % 4) 3) refl
     go true q = let z : Refused ≡ Word w = rw (eqb-true (h % 4) 3 q) at e in let y : _≡_ {A = ℕ} 0 1 = cc in absurd (omega arith)
 
 pub hints-only-advance : HintsOnlyAdvance
-unfolding standing standingCore expandedWord
-hints-only-advance image symbols half b t =
+unfolding programOf standingCore expandedWord
+hints-only-advance image program half b t =
     let x = hints-expand half b t in
     let two = expands-two half (x .0) (x .1) in
     let discards = writes-decodes (x .0) (x .2) in (
       x .0,
       x .1,
       record {
-        lanes = lane-advances (standing image symbols) half (x .0) two (rw (x .1)) (λ _. discards);
-        scalar = scalar-advances (standing image symbols) half (x .0) two (rw (x .1)) (λ _. discards);
+        lanes = lane-advances (programOf image program) half (x .0) two (rw (x .1)) (λ _. discards);
+        scalar = scalar-advances (programOf image program) half (x .0) two (rw (x .1)) (λ _. discards);
       },
     )

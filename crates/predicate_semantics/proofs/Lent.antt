@@ -18,7 +18,7 @@ use Rattle.predicate_answer.specs.Refusal.{Refusal}
 use Rattle.predicate_semantics.specs.Program.{Program, stop, stopWord}
 use Rattle.predicate_semantics.specs.State.{Result, Effect, goes, sets, stores, Attempted, advanced, apply}
 use Rattle.predicate_semantics.specs.Memory.{write}
-use Rattle.predicate_semantics.specs.Tested.{Tested, passed, refused, refuse, require, _>>=_}
+use Rattle.predicate_semantics.specs.Tested.{Tested, passed, refused, refuse, require, allow, _>>=_}
 use Rattle.predicate_semantics.specs.Lane.{LaneState, Setup, Ended, on, laneCount, memoryOf, reg, agreed, inside, roomFor, fetch, execute, attempt, step, finishEvents, finish, run, begin, startTests, start, laneRun, writtenBytes}
 use Rattle.predicate_semantics.specs.Lent.{lending, OnlyLifts, Needs, MoreRows, MoreEntries, MoreLent, RowsNeeded, EntriesNeeded}
 use Rattle.predicate_semantics.proofs.Related.{related-choose}
@@ -167,7 +167,7 @@ module _ (number : ℕ) (p : Program) (l : Setup) (rows entries : ℕ) (h : Lend
   unfolding start startTests begin laneCount
   unless-start =
       bind
-      (then (require 1 _) (λ _. then (require 2 _) (λ _. then (l .choice) (λ _. h .room 4))))
+      (then (require 1 _) (λ _. then (require 2 _) (λ _. then (allow (l .choice)) (λ _. h .room 4))))
       (λ _. same)
       (λ _ s w q. subst (Beyond l) (value q) (past-rows (omega (arith, w, four (constant (laneCount p l) stopWord)))))
 

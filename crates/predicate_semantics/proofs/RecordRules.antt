@@ -26,20 +26,22 @@ use Rattle.predicate_action.specs.Meaning.{meaning}
 use Rattle.predicate_action.proofs.Targets.{Leads, meaning-leads}
 use Rattle.predicate_answer.specs.declared.CompiledMmioEvent.{CompiledMmioEvent}
 use Rattle.predicate_trace.specs.declared.PredicateControlStep.{PredicateControlStep}
-use Rattle.predicate_semantics.specs.declared.Rv32SymbolLayout.{Rv32SymbolLayout}
+use Rattle.predicate_answer.specs.declared.CallError.the-variants as call
+use Rattle.predicate_answer.specs.declared.CallVerdict.{CallVerdict}
+use Rattle.predicate_answer.specs.declared.CallVerdict.the-variants as verdict
 use Rattle.predicate_semantics.specs.Choice.{choose}
 use Rattle.predicate_semantics.specs.Program.{Program, memoryEnd, stop, stopWord, imageEnd, sized, inMemory, symbolsPlaced}
 use Rattle.predicate_answer.specs.Blank.{maxEvents}
 use Rattle.predicate_semantics.specs.State.{Result, Effect, goes, sets, stores, Attempted, fill, atStart, recorded, advanced, apply}
 use Rattle.predicate_semantics.specs.Memory.{Written, LaneBytes, put, read, write}
-use Rattle.predicate_semantics.specs.Tested.{Tested, passed, refused, refuse, require, _>>=_}
-use Rattle.predicate_answer.specs.Refusal.{Refusal}
+use Rattle.predicate_semantics.specs.Tested.{Tested, passed, refused, refuse, _>>=_}
+use Rattle.predicate_answer.specs.Refusal.{Refusal, ofCall}
 use Rattle.predicate_semantics.specs.Lane.{LaneState, Setup, Ended, on, inside, laneCount, memoryOf, agreedAs, agreed, reg, access, accessAgreed, roomFor, decodeWord, expandHalfword, fetchFour, fetch, eventAt, execute, attempt, step, events, finishEvents, finish, run, begin, start, laneRun, laneOperations, writtenBytes, execution}
-use Rattle.predicate_semantics.specs.Standing.{standingCore, standing}
-use Rattle.predicate_semantics.specs.StandingLanes.{rangeTest, setup, standingLaneRun}
+use Rattle.predicate_semantics.specs.Standing.{standingCore, programOf}
+use Rattle.predicate_semantics.specs.Call.{Call, rangeTest, programIn, setupOf, runOf}
 use Rattle.predicate_semantics.specs.Order.{StartOrder}
 use Rattle.predicate_semantics.specs.Kept.{Distinct, Sized, Stored, Traced, Kept}
-use Rattle.predicate_semantics.specs.RecordRules.{Chain, Words, ExpandsToWords, Completed, Accepted, numbersOver, TakesStep, proper}
+use Rattle.predicate_semantics.specs.RecordRules.{Chain, Words, ExpandsToWords, Completed, Accepted, numbersOver, TakesStep, proper, ProperRefusal}
 use Rattle.predicate_semantics.proofs.Lists.{both-left, both-right}
 use Rattle.predicate_semantics.proofs.Laws.{run-stop, steps-apply, write-grows}
 use Rattle.predicate_semantics.proofs.Order.{start-order}
@@ -158,9 +160,8 @@ module _ (p : Program) (l : Setup) where
     distinct = distinct-write n a value (c .1) (c .2) (h .kept .stored .distinct);
   }) (recorded-few (p .symbols .«event_count») (s .pc) a n (s .locations))
 
-  -- a refusal that a record can hold, or the caller's choice
   abbrev Proper : Refusal → Type 0
-  Proper r = T (proper r) ⊎ (l .choice ≡ refused r)
+  Proper = ProperRefusal l
 
   -- the value that lanes agree on is lane 0's
   always-agreed : (role : ℕ) (w : LaneWord) → T (leb 1 role && leb role 10) → Always Proper (λ v. v ≡ getD (w .values) 0 0) (agreed role w)
@@ -170,21 +171,21 @@ module _ (p : Program) (l : Setup) where
       go : (b c : Bool)
           → Always Proper (λ v. v ≡ getD (w .values) 0 0) (agreedAs role (cond b (cond c (Value (getD (w .values) 0 0)) Uneven) Unknown))
       go true true = gives refl
-      go true false = stops _ (inl t)
-      go false c = stops _ (inl t)
+      go true false = stops _ t
+      go false c = stops _ t
 
   always-inside : (a n : ℕ) → Always Proper (λ _. a + n ≤ memoryEnd) (inside a n)
   unfolding inside proper
   always-inside a n =
-      bind (always-require 4 _ (inl tt)) (λ u t.
-      weaken (always-require 5 _ (inl tt)) (λ u t. leb→le _ _ t))
+      bind (always-require 4 _ tt) (λ u t.
+      weaken (always-require 5 _ tt) (λ u t. leb→le _ _ t))
 
   always-roomFor : (end rows a n written : ℕ) → Always Proper (λ _. (end ≤ a) × (a + n ≤ memoryEnd) × (written ≤ rows)) (roomFor end rows a n written)
   unfolding roomFor proper
   always-roomFor end rows a n written =
       bind (always-inside a n) (λ u high.
-      bind (always-require 11 _ (inl tt)) (λ u low.
-      weaken (always-require 13 _ (inl tt)) (λ u few. (leb→le _ _ low, high, leb→le _ _ few))))
+      bind (always-require 11 _ tt) (λ u low.
+      weaken (always-require 13 _ tt) (λ u few. (leb→le _ _ low, high, leb→le _ _ few))))
 
   always-access : (m : LaneBytes) (n a : ℕ) → Always Proper (λ w. w ≡ read (laneCount p l) m n a) (access (laneCount p l) m n a)
   unfolding access
@@ -199,7 +200,7 @@ module _ (p : Program) (l : Setup) where
 
   always-decodeWord : (steps word n : ℕ) → (n ≡ 2) ⊎ (n ≡ 4) → (ExpandsToWords (p .core) → word < 2 ^ 32) → Always Proper Short (decodeWord (p .core) steps word n)
   unfolding decodeWord proper
-  always-decodeWord steps word n h x = bind (always-found 9 _ (inl tt)) (λ operation _. gives (record { size = h; word-fits = x }))
+  always-decodeWord steps word n h x = bind (always-found 9 _ tt) (λ operation _. gives (record { size = h; word-fits = x }))
 
   always-fetch : (m : LaneBytes) (steps pc : ℕ) → Always Proper Short (fetch (laneCount p l) (p .core) m steps pc)
   unfolding fetch fetchFour expandHalfword proper
@@ -207,7 +208,7 @@ module _ (p : Program) (l : Setup) where
       bind (always-accessAgreed 1 m 2 pc tt) (λ half _.
       always-choose (eqb (half % 4) 3)
       (λ _. bind (always-accessAgreed 1 m 4 pc tt) (λ word h. always-decodeWord steps word 4 (inr refl) (λ x. h)))
-      (λ _. bind (always-found 8 (p .core .expand half) (inl tt)) (λ word e. always-decodeWord steps word 2 (inl refl) (λ x. x half word e))))
+      (λ _. bind (always-found 8 (p .core .expand half) tt) (λ word e. always-decodeWord steps word 2 (inl refl) (λ x. x half word e))))
 
   always-execute : (s : LaneState) (next : ℕ) (d : Action) → next < 2 ^ 32 → Leads d → Always Proper (Clear s) (execute p l s next d)
   unfolding execute proper unary
@@ -218,7 +219,7 @@ module _ (p : Program) (l : Setup) where
   always-execute s next (Jump rd to) h g = gives g
   always-execute s next (JumpTo rd a offset) h g =
       bind (always-agreed 2 _ tt) (λ to e.
-      bind (always-require 10 _ (inl tt)) (λ u t. gives (rw e (first-target offset ((reg p l s a) .values)))))
+      bind (always-require 10 _ tt) (λ u t. gives (rw e (first-target offset ((reg p l s a) .values)))))
   always-execute s next (Branch f a b to) h g = bind (always-agreed 5 _ tt) (λ direction _. gives (either-fits (eqb direction 0) next to h g))
   always-execute s next (Load rd a offset n e) h g =
       bind (always-agreed 3 _ tt) (λ address _.
@@ -237,7 +238,7 @@ module _ (p : Program) (l : Setup) where
   unfolding step proper
   always-step s k =
       bind (always-attempt s) (λ seen h.
-      bind (always-require 14 _ (inl tt)) (λ u t.
+      bind (always-require 14 _ tt) (λ u t.
       gives (kept-apply (seen .effect) (record { kept = k; instruction = h .0; lent = ltb→lt _ _ t }) (h .1), steps-apply write _ s (seen .fetched) (seen .effect))))
 
   always-eventAt : (m : LaneBytes) (a location : ℕ) → Always Proper (λ _. Unit {0}) (eventAt (laneCount p l) m a location)
@@ -267,7 +268,7 @@ module _ (p : Program) (l : Setup) where
   always-finish s =
       bind (always-agreed 6 _ tt) (λ value _.
       bind (always-accessAgreed 7 (memoryOf p l s) 4 _ tt) (λ count _.
-      bind (always-require 12 _ (inl tt)) (λ u t.
+      bind (always-require 12 _ tt) (λ u t.
       bind (always-events _ (memoryOf p l s) 0 [] (s .locations)) (λ es e. gives (record {
         same-steps = refl;
         same-trace = refl;
@@ -310,7 +311,7 @@ module _ (p : Program) (l : Setup) where
   ends-run : (n most : ℕ) (s : LaneState) → Kept p l s → s .steps + n ≤ most → Ends most (run p l n s)
   unfolding run refuse proper
   ends-run zero most s k b =
-      ends-choose most (eqb (s .pc) stop) _ _ (ends-stop most s k (omega arith)) (λ e. (k .traced, omega arith, stops _ (inl tt)))
+      ends-choose most (eqb (s .pc) stop) _ _ (ends-stop most s k (omega arith)) (λ e. (k .traced, omega arith, stops _ tt))
   ends-run (suc n) most s k b =
       ends-choose most (eqb (s .pc) stop) _ _ (ends-stop most s k (omega arith))
       (λ e. ends-on most _ (k .traced) (omega arith) (always-step s k) (λ t h. ends-run n most t (h .0) (omega (arith, h .1))))
@@ -348,13 +349,13 @@ module _ (p : Program) (l : Setup) where
       order : StartOrder p l
       order = start-order p l
 
-      go : (a b : Bool) (t : Tested (Unit {0})) (d : Bool) → sized (length (p .image)) ≡ a → symbolsPlaced (p .symbols) ≡ b → l .choice ≡ t → leb 4 (l .rows) ≡ d
+      go : (a b : Bool) (t : CallVerdict) (d : Bool) → sized (length (p .image)) ≡ a → symbolsPlaced (p .symbols) ≡ b → l .choice ≡ t → leb 4 (l .rows) ≡ d
           → Always Proper (λ s. Kept p l s × (s ≡ begin p l)) (start p l)
-      go false b t d e f c r = rw (order .image e) (stops _ (inl tt))
-      go true false t d e f c r = rw (order .symbols e f) (stops _ (inl tt))
-      go true true (refused q) d e f c r = rw (order .choice e f q c) (stops q (inr c))
-      go true true (passed u) false e f c r = rw (order .rows e f c r) (stops _ (inl tt))
-      go true true (passed u) true e f c r =
+      go false b t d e f c r = rw (order .image e) (stops _ tt)
+      go true false t d e f c r = rw (order .symbols e f) (stops _ tt)
+      go true true (verdict.Refused q) d e f c r = rw (order .choice e f q c) (stops (ofCall q) c)
+      go true true verdict.Passed false e f c r = rw (order .rows e f c r) (stops _ tt)
+      go true true verdict.Passed true e f c r =
           rw (order .none e f c r)
           (gives (begin-kept (fit (subst T (sym e) tt)) (entry-fits (subst T (sym f) tt)) (leb→le 4 (l .rows) (subst T (sym r) tt)), refl))
 
@@ -386,43 +387,44 @@ module _ (p : Program) (l : Setup) where
         lent = k .stored .most;
       }
 
-  -- a refusal that a record can hold, or that of the caller's choice
-  pub refused-proper : (limit : ℕ) (r : Refusal) → (laneRun p l limit) .answer ≡ refused r → T (proper r) ⊎ (l .choice ≡ refused r)
+  pub refused-proper : (limit : ℕ) (r : Refusal) → (laneRun p l limit) .answer ≡ refused r → ProperRefusal l r
   refused-proper limit r e = refuses (rw e at (ends-laneRun limit .2))
 
 -- where the run accepts, the caller's choice passed
 module _ (p : Program) (l : Setup) (limit : ℕ) (r : Result) (e : (laneRun p l limit) .answer ≡ passed r) where
-  pub chosen : l .choice ≡ passed tt
+  pub chosen : l .choice ≡ verdict.Passed
   unfolding laneRun on refuse
   chosen = go (sized (length (p .image))) (symbolsPlaced (p .symbols)) (l .choice) refl refl refl
     where
       order : StartOrder p l
       order = start-order p l
 
-      go : (a b : Bool) (t : Tested (Unit {0})) → sized (length (p .image)) ≡ a → symbolsPlaced (p .symbols) ≡ b → l .choice ≡ t → t ≡ passed tt
+      go : (a b : Bool) (t : CallVerdict) → sized (length (p .image)) ≡ a → symbolsPlaced (p .symbols) ≡ b → l .choice ≡ t → t ≡ verdict.Passed
       go false b t f g c = absurd (no-pass (rw (order .image f) at e))
       go true false t f g c = absurd (no-pass (rw (order .symbols f g) at e))
-      go true true (refused q) f g c = absurd (no-pass (rw (order .choice f g q c) at e))
-      go true true (passed u) f g c = refl
+      go true true (verdict.Refused q) f g c = absurd (no-pass (rw (order .choice f g q c) at e))
+      go true true verdict.Passed f g c = refl
+
+-- a refused choice is not taken
+abbrev Taken : CallVerdict → Type 0
+Taken verdict.Passed = Unit {0}
+Taken (verdict.Refused e) = ⊥
 
 -- .. so the first input of its range is not above the last
-ordered-by : (first last : ℕ) → require 17 (leb first last) ≡ passed tt → first ≤ last
-unfolding require refuse
-ordered-by first last = go (leb first last) refl
-  where
-    go : (b : Bool) → leb first last ≡ b → require 17 b ≡ passed tt → first ≤ last
-    go true b q = leb-true first last b
-    go false b q = absurd (no-pass q)
-
-pub ordered : (range : InputRange) → rangeTest range ≡ passed tt → range .first ≤ range .last
+pub ordered : (range : InputRange) → rangeTest range ≡ verdict.Passed → range .first ≤ range .last
 unfolding rangeTest
-ordered range q = ordered-by (range .first) (range .last) q
+ordered range = go (leb (range .first) (range .last)) refl
+  where
+    go : (b : Bool) → leb (range .first) (range .last) ≡ b → cond b verdict.Passed (verdict.Refused call.FirstAboveLast) ≡ verdict.Passed → range .first ≤ range .last
+    go true b q = leb-true (range .first) (range .last) b
+    go false b q = absurd (subst Taken (sym q) tt)
 
 -- the numbers are those of its inputs
-pub execution-over : (p : Program) (range : InputRange) (rows entries : ℕ) (s : LaneState) (r : Result) → range .first ≤ range .last
-    → execution p (setup range rows entries) s r ≡ numbersOver range (s .steps) (length (s .memory)) r
-unfolding execution setup laneCount laneOperations writtenBytes
-execution-over p range rows entries s r h =
+pub execution-over : (c : Call) (s : LaneState) (r : Result) → c .range .first ≤ c .range .last
+    → execution (programIn c) (setupOf c) s r ≡ numbersOver (c .range) (s .steps) (length (s .memory)) r
+unfolding execution setupOf laneCount laneOperations writtenBytes
+execution-over c s r h =
+    let range = c .range in
     let first : getD (inputs (range .first) (inputCount range)) 0 0 ≡ range .first = getD-inputs (range .first) (inputCount range) 0 (omega arith) ∙ omega arith in
     rw (first, length-inputs (range .first) (inputCount range))
 
@@ -439,45 +441,47 @@ unfolding on
 always-on s f (stops r t) h = stops r t
 always-on s f (gives k) h = h _ k
 
-module _ (image : List ℕ) (symbols : Rv32SymbolLayout) (range : InputRange) (rows entries : ℕ) where
-  abbrev standingProgram : Program
-  standingProgram = standing image symbols
+module _ (c : Call) where
+  abbrev p : Program
+  p = programIn c
 
-  abbrev rangeSetup : Setup
-  rangeSetup = setup range rows entries
+  abbrev l : Setup
+  l = setupOf c
+
+  abbrev entry : ℕ
+  entry = c .program .symbols .entry
 
   -- x10 is the input: at entry = stop the return value is not uniform
-  uneven : 1 < inputCount range → finish standingProgram rangeSetup (begin standingProgram rangeSetup) ≡ refuse 7 6
-  unfolding finish begin standing setup standingCore fill atStart choose reg agreed refuse _>>=_
-  uneven h = rw (differ (range .first) (inputCount range) h)
+  uneven : 1 < inputCount (c .range) → finish p l (begin p l) ≡ refuse 7 6
+  unfolding finish begin programOf setupOf standingCore fill atStart choose reg agreed refuse _>>=_
+  uneven h = rw (differ (c .range .first) (inputCount (c .range)) h)
 
-  refused-at-stop : 1 < inputCount range → eqb (symbols .entry) stop ≡ true
-      → Always (Proper standingProgram rangeSetup) (λ _. ⊥) (standingLaneRun image symbols range rows entries .answer)
-  unfolding standingLaneRun laneRun begin standing refuse proper
+  refused-at-stop : 1 < inputCount (c .range) → eqb entry stop ≡ true → Always (ProperRefusal l) (λ _. ⊥) (runOf c .answer)
+  unfolding runOf laneRun begin programOf refuse proper
   refused-at-stop h b =
-      always-on _ _ (always-start standingProgram rangeSetup)
-      (λ t k. rw (k .1, run-stop standingProgram rangeSetup maxSteps (begin standingProgram rangeSetup) b, uneven h) (stops _ (inl tt)))
+      always-on _ _ (always-start p l)
+      (λ t k. rw (k .1, run-stop p l maxSteps (begin p l) b, uneven h) (stops _ tt))
 
-  module _ (r : Result) (e : (standingLaneRun image symbols range rows entries) .answer ≡ passed r) where
-    some-input : 1 ≤ inputCount range
-    unfolding standingLaneRun setup
-    some-input = omega (arith, ordered range (chosen standingProgram rangeSetup maxSteps r e))
+  module _ (r : Result) (e : (runOf c) .answer ≡ passed r) where
+    some-input : 1 ≤ inputCount (c .range)
+    unfolding runOf setupOf
+    some-input = omega (arith, ordered (c .range) (chosen p l maxSteps r e))
 
-    positive : (t : List PredicateControlStep) {to : ℕ} → eqb (symbols .entry) stop ≡ false → to ≡ stop → Chain (symbols .entry) t to → 1 ≤ length t
-    positive [] b a c = absurd (eqb-false _ _ b (c ∙ a))
-    positive (d ∷ t) b a c = omega arith
+    positive : (t : List PredicateControlStep) {to : ℕ} → eqb entry stop ≡ false → to ≡ stop → Chain entry t to → 1 ≤ length t
+    positive [] b a k = absurd (eqb-false _ _ b (k ∙ a))
+    positive (d ∷ t) b a k = omega arith
 
-    one-input : (b : Bool) → eqb (symbols .entry) stop ≡ true → ltb 1 (inputCount range) ≡ b → inputCount range ≡ 1
-    one-input true a b = absurd (passes (rw e at (refused-at-stop (ltb-true 1 (inputCount range) b) a)))
-    one-input false a b = omega (arith, some-input, ltb-false 1 (inputCount range) b)
+    one-input : (b : Bool) → eqb entry stop ≡ true → ltb 1 (inputCount (c .range)) ≡ b → inputCount (c .range) ≡ 1
+    one-input true a b = absurd (passes (rw e at (refused-at-stop (ltb-true 1 (inputCount (c .range)) b) a)))
+    one-input false a b = omega (arith, some-input, ltb-false 1 (inputCount (c .range)) b)
 
-    steps-by : (b : Bool) → eqb (symbols .entry) stop ≡ b → (1 ≤ r .steps) ⊎ (inputCount range ≡ 1)
-    unfolding standingLaneRun standing
-    steps-by true b = inr (one-input (ltb 1 (inputCount range)) b refl)
+    steps-by : (b : Bool) → eqb entry stop ≡ b → (1 ≤ r .steps) ⊎ (inputCount (c .range) ≡ 1)
+    unfolding runOf programOf
+    steps-by true b = inr (one-input (ltb 1 (inputCount (c .range))) b refl)
     steps-by false b =
-        let a : Accepted rangeSetup (standingLaneRun image symbols range rows entries .state) r = accepted standingProgram rangeSetup maxSteps r e in
-        let c : Completed standingProgram rangeSetup maxSteps (standingLaneRun image symbols range rows entries .state) = completed standingProgram rangeSetup maxSteps in
-        inl (omega (arith, positive (standingLaneRun image symbols range rows entries .state .trace) b (a .arrived) (c .chain), c .counted, a .steps))
+        let a : Accepted l (runOf c .state) r = accepted p l maxSteps r e in
+        let k : Completed p l maxSteps (runOf c .state) = completed p l maxSteps in
+        inl (omega (arith, positive (runOf c .state .trace) b (a .arrived) (k .chain), k .counted, a .steps))
 
 pub takes-step : TakesStep
-takes-step image symbols range rows entries r e = steps-by image symbols range rows entries r e (eqb (symbols .entry) stop) refl
+takes-step c r e = steps-by c r e (eqb (entry c) stop) refl

@@ -22,6 +22,7 @@ use Rattle.predicate_semantics.specs.State.{Effect, Attempted, advanced,
 use Rattle.predicate_semantics.specs.Memory.{Written, LaneBytes, laneBytes}
 use Rattle.predicate_semantics.specs.Memory as Memory
 use Rattle.predicate_semantics.specs.Tested.{Tested, refuse, require, ifPassed}
+use Rattle.predicate_answer.specs.declared.CallVerdict.{CallVerdict}
 use Rattle.predicate_semantics.specs.Lane.{LaneState, Setup, laneCount, reg}
 use Rattle.predicate_semantics.specs.Lane as Lane
 use Rattle.predicate_semantics.specs.Scalar.{Bytes, ScalarState}
@@ -42,7 +43,7 @@ sim-roomFor : (end rows a n written : ℕ) → Sim _≡_ (Lane.roomFor end rows 
 unfolding Lane.roomFor Scalar.roomFor
 sim-roomFor end rows a n written = bind-same (sim-inside a n) (λ _. bind-into (sim-require 11 _) (λ u v e. sim-last _ v))
 
-sim-startTests : (size : ℕ) (symbols : Rv32SymbolLayout) (choice : Tested (Unit {0})) (rows : ℕ)
+sim-startTests : (size : ℕ) (symbols : Rv32SymbolLayout) (choice : CallVerdict) (rows : ℕ)
     → Sim _≡_ (Lane.startTests size symbols choice rows) (Scalar.startTests size symbols)
 unfolding Lane.startTests Scalar.startTests
 sim-startTests size symbols choice rows = bind-same (sim-require 1 _) (λ _. bind-into (sim-require 2 _) (λ u v e. bind-lane _ (λ _. sim-last _ v)))

@@ -10,13 +10,14 @@ use Rattle.lane_word.specs.declared.InputRange.{InputRange}
 use Rattle.lane_word.specs.Range.{invalidChannels}
 use Rattle.predicate_trace.specs.declared.PredicateControlStep.{PredicateControlStep}
 use Rattle.predicate_answer.specs.declared.PredicateTransducerExecution.{PredicateTransducerExecution}
+use Rattle.predicate_answer.specs.Refusal.{numberOf, roleIn}
 use Rattle.predicate_semantics.specs.declared.Rv32SymbolLayout.{Rv32SymbolLayout}
 use Rattle.predicate_semantics.specs.Program.{stop}
 use Rattle.predicate_semantics.specs.State.{Result}
 use Rattle.predicate_semantics.specs.Tested.{Tested, passed, refused}
 use Rattle.predicate_semantics.specs.Lane.{Ended, execution}
-use Rattle.predicate_semantics.specs.Standing.{standing, standingScalarRun}
-use Rattle.predicate_semantics.specs.StandingLanes.{setup, standingLaneRun}
+use Rattle.predicate_semantics.specs.Standing.{scalarAnswer}
+use Rattle.predicate_semantics.specs.Call.{Call, programIn, setupOf, runOf}
 
 -- what a run gives
 pub data Outcome : Type 0 where
@@ -38,18 +39,22 @@ pub record Case : Type 0 where
 unfoldable pub symbols : ℕ → Rv32SymbolLayout
 symbols entry = record { entry = entry; «event_count» = 0x80001000; events = 0x80001004 }
 
+-- an image from such an entry, over a range, with so many rows and trace entries lent
+unfoldable pub calling : List ℕ → ℕ → InputRange → ℕ → ℕ → Call
+calling image entry range rows entries = record { image = image; program = record { symbols = symbols entry }; range = range; rows = rows; entries = entries }
+
 -- the answer, with the steps that the run completed, is the outcome
 unfoldable pub meets : Outcome → ℕ → Tested Result → Bool
 meets (accepts value steps) completed (passed r) = eqb (r .returnValue) value && eqb (r .steps) steps
 meets (accepts value steps) completed (refused r) = false
 meets (refuses number role steps) completed (passed r) = false
 meets (refuses number role steps) completed (refused r) =
-    eqb (r .number) number && eqb (r .role) role && eqb completed steps
+    eqb (numberOf r) number && eqb (roleIn r) role && eqb completed steps
 
 -- the run of a case gives its outcome
 unfoldable pub holds : Case → Bool
 holds c =
-    let e : Ended = standingLaneRun (c .image) (symbols (c .entry)) (c .range) (c .rows) (c .entries) in
+    let e : Ended = runOf (calling (c .image) (c .entry) (c .range) (c .rows) (c .entries)) in
     meets (c .outcome) (e .state .steps) (e .answer)
 
 -- every case of a table does
@@ -154,7 +159,7 @@ abbrev pub ScalarRunsGiveZero : Type 0
 ScalarRunsGiveZero =
     (input : ℕ) (others : ℕ → ℕ)
     → Option·map (λ (r : Result). r .returnValue)
-    (standingScalarRun (0xAD ∷ 0x8D ∷ 0x2E ∷ 0x85 ∷ 0x82 ∷ 0x80 ∷ []) (symbols imageBase) input others)
+    (scalarAnswer (0xAD ∷ 0x8D ∷ 0x2E ∷ 0x85 ∷ 0x82 ∷ 0x80 ∷ []) (record { symbols = symbols imageBase }) input others)
     ≡ some 0
 
 -- program counter, word after expansion, length, next program counter
@@ -251,13 +256,13 @@ oneInputExecution = record {
   «event_count» = 0;
 }
 
--- the run of an image ends in this result, with these numbers
-pub record EndsWith (image : List ℕ) (symbols : Rv32SymbolLayout) (range : InputRange) (rows entries : ℕ) (r : Result) (e : PredicateTransducerExecution) : Type 0 where
-  pub result : (standingLaneRun image symbols range rows entries) .answer ≡ passed r
-  pub numbers : execution (standing image symbols) (setup range rows entries) ((standingLaneRun image symbols range rows entries) .state) r ≡ e
+-- the run of a call ends in this result, with these numbers
+pub record EndsWith (c : Call) (r : Result) (e : PredicateTransducerExecution) : Type 0 where
+  pub result : (runOf c) .answer ≡ passed r
+  pub numbers : execution (programIn c) (setupOf c) ((runOf c) .state) r ≡ e
 
 -- the three runs above, whole
 pub record WorkedRuns : Type 0 where
-  pub example : EndsWith return1 (symbols imageBase) invalidChannels 200 2048 exampleResult exampleExecution
-  pub one-event : EndsWith oneEvent (symbols imageBase) invalidChannels 200 2048 oneEventResult oneEventExecution
-  pub one-input : EndsWith return1 (symbols stop) (record { first = 7; last = 7 }) 4 0 oneInputResult oneInputExecution
+  pub example : EndsWith (calling return1 imageBase invalidChannels 200 2048) exampleResult exampleExecution
+  pub one-event : EndsWith (calling oneEvent imageBase invalidChannels 200 2048) oneEventResult oneEventExecution
+  pub one-input : EndsWith (calling return1 stop (record { first = 7; last = 7 }) 4 0) oneInputResult oneInputExecution

@@ -1,13 +1,10 @@
 -- Demand 3: what the lane run promises of the scalar run of each input, while it runs and where it accepts.
 use mathlib.Core.Path.{_≡_}
 use mathlib.Core.Option.{some}
-use mathlib.Core.List.{List}
 use Prim.Native.Nat.{ℕ, _≤_}
 use lib.Dec.{T}
 use lib.ListN.{getElem?}
 use Rattle.lane_word.specs.declared.LaneWord.{LaneWord}
-use Rattle.lane_word.specs.declared.InputRange.{InputRange}
-use Rattle.predicate_semantics.specs.declared.Rv32SymbolLayout.{Rv32SymbolLayout}
 use Rattle.predicate_semantics.specs.Program.{Program}
 use Rattle.predicate_semantics.specs.State.{Result}
 use Rattle.predicate_semantics.specs.Tested.{passed}
@@ -15,8 +12,8 @@ use Rattle.predicate_semantics.specs.Scalar.{ScalarState, scalarRun}
 use Rattle.predicate_semantics.specs.Scalar as Scalar
 use Rattle.predicate_semantics.specs.Lane.{LaneState, Setup, laneRun}
 use Rattle.predicate_semantics.specs.Lane as Lane
-use Rattle.predicate_semantics.specs.Standing.{standingScalarRun}
-use Rattle.predicate_semantics.specs.StandingLanes.{standingLaneRun}
+use Rattle.predicate_semantics.specs.Standing.{scalarAnswer}
+use Rattle.predicate_semantics.specs.Call.{Call, runOf}
 
 -- if the lane word is known, its lane k holds v
 abbrev pub KnownLane : ℕ → LaneWord → ℕ → Type 0
@@ -59,11 +56,10 @@ module _ (p : Program) (l : Setup) where
       → (k input : ℕ) → getElem? (l .inputs) k ≡ some input
       → (others : ℕ → ℕ) → scalarRun p limit input others ≡ some r
 
--- Where the lane run of an image over a range accepts, the scalar run of each of its inputs, with whatever in the registers that are not
--- set, has the same result: return value, steps, trace, and the events with their locations.
+-- Where the lane run of a call accepts, the scalar run of each input of its range, with whatever in the registers that are not set, has the
+-- same result: return value, steps, trace, and the events with their locations.
 abbrev pub Guarantee : Type 0
 Guarantee =
-    (image : List ℕ) (symbols : Rv32SymbolLayout) (range : InputRange) (rows entries : ℕ) (r : Result)
-    → (standingLaneRun image symbols range rows entries) .answer ≡ passed r
-    → (input : ℕ) → range .first ≤ input → input ≤ range .last
-    → (others : ℕ → ℕ) → standingScalarRun image symbols input others ≡ some r
+    (c : Call) (r : Result) → (runOf c) .answer ≡ passed r
+    → (input : ℕ) → c .range .first ≤ input → input ≤ c .range .last
+    → (others : ℕ → ℕ) → scalarAnswer (c .image) (c .program) input others ≡ some r

@@ -8,9 +8,9 @@ use Rattle.rv32_arithmetic.specs.Arithmetic.{add}
 use Rattle.riscv32imc.specs.Expansion.{expand}
 use Rattle.riscv32imc.specs.Hints.{hint}
 use Rattle.riscv32imc.specs.declared.compressed.Expanded.the-variants.{Word}
-use Rattle.predicate_semantics.specs.declared.Rv32SymbolLayout.{Rv32SymbolLayout}
+use Rattle.predicate_semantics.specs.declared.Rv32Program.{Rv32Program}
 use Rattle.predicate_semantics.specs.State.{State}
-use Rattle.predicate_semantics.specs.Standing.{standing}
+use Rattle.predicate_semantics.specs.Standing.{programOf}
 use Rattle.predicate_semantics.specs.Tested.{passed, require, _>>=_}
 use Rattle.predicate_semantics.specs.Scalar as Scalar
 use Rattle.predicate_semantics.specs.Lane as Lane
@@ -33,16 +33,16 @@ past word s = record {
 
 -- where the next instruction is a halfword that expands to a word, the step only advances, whatever registers hold and whether or not lanes know it;
 -- the lane run needs a trace entry for it, as for every step
-pub record OnlyAdvances (image : List ℕ) (symbols : Rv32SymbolLayout) (half word : ℕ) : Type 0 where
+pub record OnlyAdvances (image : List ℕ) (program : Rv32Program) (half word : ℕ) : Type 0 where
   pub lanes : (l : Lane.Setup) (s : Lane.LaneState)
-      → Lane.accessAgreed (Lane.laneCount (standing image symbols) l) 1 (Lane.memoryOf (standing image symbols) l s) 2 (s .pc) ≡ passed half
-      → Lane.step (standing image symbols) l s ≡ (require 14 (ltb (s .steps) (l .entries)) >>= λ _. passed (past word s))
+      → Lane.accessAgreed (Lane.laneCount (programOf image program) l) 1 (Lane.memoryOf (programOf image program) l s) 2 (s .pc) ≡ passed half
+      → Lane.step (programOf image program) l s ≡ (require 14 (ltb (s .steps) (l .entries)) >>= λ _. passed (past word s))
   pub scalar : (s : Scalar.ScalarState)
       → Scalar.access (s .memory) 2 (s .pc) ≡ some half
-      → Scalar.step (standing image symbols) s ≡ some (past word s)
+      → Scalar.step (programOf image program) s ≡ some (past word s)
 
 -- each hint does so, in every image
 abbrev pub HintsOnlyAdvance : Type 0
 HintsOnlyAdvance =
-    (image : List ℕ) (symbols : Rv32SymbolLayout) (half : ℕ) → half < 2 ^ 16 → T (hint half)
-    → (word : ℕ) × (expand half ≡ Word word) × OnlyAdvances image symbols half word
+    (image : List ℕ) (program : Rv32Program) (half : ℕ) → half < 2 ^ 16 → T (hint half)
+    → (word : ℕ) × (expand half ≡ Word word) × OnlyAdvances image program half word

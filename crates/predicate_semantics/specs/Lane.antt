@@ -18,22 +18,23 @@ use Rattle.predicate_action.specs.declared.Action.the-variants.{Nothing, Litera
 use Rattle.predicate_action.specs.Meaning.{extensionOf, meaning}
 use Rattle.predicate_answer.specs.declared.CompiledMmioEvent.{CompiledMmioEvent}
 use Rattle.predicate_answer.specs.declared.PredicateTransducerExecution.{PredicateTransducerExecution}
+use Rattle.predicate_answer.specs.declared.CallVerdict.{CallVerdict}
 use Rattle.predicate_semantics.specs.declared.Rv32SymbolLayout.{Rv32SymbolLayout}
 use Rattle.predicate_semantics.specs.Choice.{choose}
 use Rattle.predicate_semantics.specs.Program.{Core, Program, memoryEnd, stop, stopWord, stackPointer, eventStride, imageEnd, sized, symbolsPlaced}
 use Rattle.predicate_answer.specs.Blank.{maxEvents}
 use Rattle.predicate_semantics.specs.State.{State, Result, Effect, goes, sets, stores, Attempted, fill, atStart, apply}
 use Rattle.predicate_semantics.specs.Memory.{Written, LaneBytes, laneBytes, read, write}
-use Rattle.predicate_semantics.specs.Tested.{Tested, passed, refused, _>>=_, ifPassed, refuse, require, found}
+use Rattle.predicate_semantics.specs.Tested.{Tested, passed, refused, _>>=_, ifPassed, refuse, require, allow, found}
 
 -- registers are lane words, memory the written bytes over the image and zeros
 abbrev pub LaneState : Type 0
 LaneState = State LaneWord (List Written)
 
--- the inputs, one for each lane, what the caller's choice of them comes to, and how many whole rows and trace entries are lent
+-- the inputs, one for each lane, whether what the caller chose is taken, and how many whole rows and trace entries are lent
 pub record Setup : Type 0 where
   pub inputs : List ℕ
-  pub choice : Tested (Unit {0})
+  pub choice : CallVerdict
   pub rows : ℕ
   pub entries : ℕ
 
@@ -59,11 +60,11 @@ inside a n = do
   require 5 (leb (a + n) memoryEnd)
 
 -- Who causes a refusal: before any step, of an image of so many bytes, 1, 2, the caller's choice, and 13 where under four rows are lent
-unfoldable pub startTests : ℕ → Rv32SymbolLayout → Tested (Unit {0}) → ℕ → Tested (Unit {0})
+unfoldable pub startTests : ℕ → Rv32SymbolLayout → CallVerdict → ℕ → Tested (Unit {0})
 startTests size symbols choice rows = do
   _ ← require 1 (sized size)
   _ ← require 2 (symbolsPlaced symbols)
-  _ ← choice
+  _ ← allow choice
   require 13 (leb 4 rows)
 
 -- a store at a known address: range, 11 below the image's end, 13 where the bytes then written are more than the rows

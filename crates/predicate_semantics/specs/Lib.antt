@@ -7,7 +7,8 @@ pub mod Tested
 pub mod Memory
 pub mod Lane
 pub mod Standing
-pub mod StandingLanes
+pub mod Call
+pub mod Outcome
 pub mod Guarantee
 pub mod Cases
 pub mod Bound

@@ -5,21 +5,21 @@ use mathlib.Core.Option.{some}
 use mathlib.Core.Logic.{_⊎_}
 use mathlib.Core.List.{List, [], _∷_}
 use Prim.Native.Nat.{ℕ, _*_, _≤_, _<_, _^_}
-use lib.Dec.{leb, eqb}
+use lib.Dec.{T, leb, eqb}
 use lib.ListN.{length}
 use Rattle.riscv32imc.specs.Constants.{maxMemoryBytes}
 use Rattle.lane_word.specs.declared.InputRange.{InputRange}
 use Rattle.lane_word.specs.Range.{inputCount}
 use Rattle.predicate_trace.specs.declared.PredicateControlStep.{PredicateControlStep}
 use Rattle.predicate_answer.specs.declared.PredicateTransducerExecution.{PredicateTransducerExecution}
-use Rattle.predicate_semantics.specs.declared.Rv32SymbolLayout.{Rv32SymbolLayout}
 use Rattle.predicate_semantics.specs.Program.{Core, Program, stop}
 use Rattle.predicate_answer.specs.Blank.{maxEvents, lastRefusal, lastRole}
 use Rattle.predicate_semantics.specs.State.{Result}
 use Rattle.predicate_semantics.specs.Tested.{passed}
-use Rattle.predicate_answer.specs.Refusal.{Refusal}
+use Rattle.predicate_answer.specs.declared.CallVerdict.the-variants as verdict
+use Rattle.predicate_answer.specs.Refusal.{RunRefusal, Refusal, ofRun, ofCall}
 use Rattle.predicate_semantics.specs.Lane.{LaneState, Setup}
-use Rattle.predicate_semantics.specs.StandingLanes.{standingLaneRun}
+use Rattle.predicate_semantics.specs.Call.{Call, runOf}
 
 -- a trace that leads from one address to another, each step from where the step before it led, in instructions of 2 or 4 bytes
 abbrev pub Chain : ℕ → List PredicateControlStep → ℕ → Type 0
@@ -74,11 +74,15 @@ numbersOver range steps written r = record {
 -- a run is accepted with no step only over one input: where entry is stop, inputs that differ refuse the run
 abbrev pub TakesStep : Type 0
 TakesStep =
-    (image : List ℕ) (symbols : Rv32SymbolLayout) (range : InputRange) (rows entries : ℕ) (r : Result)
-    → (standingLaneRun image symbols range rows entries) .answer ≡ passed r → (1 ≤ r .steps) ⊎ (inputCount range ≡ 1)
+    (c : Call) (r : Result) → (runOf c) .answer ≡ passed r → (1 ≤ r .steps) ⊎ (inputCount (c .range) ≡ 1)
 
 -- the refusals that a record can hold: a role goes with 6 and 7 alone
-unfoldable pub proper : Refusal → Bool
+unfoldable pub proper : RunRefusal → Bool
 proper r =
     leb 1 (r .number) && leb (r .number) lastRefusal
     && cond (eqb (r .number) 6 || eqb (r .number) 7) (leb 1 (r .role) && leb (r .role) lastRole) (eqb (r .role) 0)
+
+-- a refusal of the run is one of these, and one of the call is for what its caller chose
+abbrev pub ProperRefusal : Setup → Refusal → Type 0
+ProperRefusal l (ofRun q) = T (proper q)
+ProperRefusal l (ofCall e) = l .choice ≡ verdict.Refused e

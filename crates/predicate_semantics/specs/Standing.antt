@@ -1,4 +1,4 @@
--- The standing instance: the manual's table, 32 registers and the bound.
+-- The program of a call: the manual's table, 32 registers, and the bound on its scalar run.
 use mathlib.Core.Option.{Option, none, some}
 use mathlib.Core.List.{List}
 use Prim.Native.Nat.{ℕ}
@@ -10,7 +10,7 @@ use Rattle.riscv_decode.specs.declared.Operation.{Operation}
 use Rattle.riscv_decode.specs.declared.Decoded.{Decoded}
 use Rattle.riscv_decode.specs.declared.Decoded.the-variants.{Known}
 use Rattle.riscv_decode.specs.Decode.{decodeOf}
-use Rattle.predicate_semantics.specs.declared.Rv32SymbolLayout.{Rv32SymbolLayout}
+use Rattle.predicate_semantics.specs.declared.Rv32Program.{Rv32Program}
 use Rattle.predicate_semantics.specs.Program.{Core, Program}
 use Rattle.predicate_semantics.specs.State.{Result}
 use Rattle.predicate_semantics.specs.Scalar.{scalarRun}
@@ -29,10 +29,10 @@ decodedOperation Decoded.Refused = none
 unfoldable pub standingCore : Core
 standingCore = record { expand = λ h. expandedWord (expand h); decode = λ steps w. decodedOperation (decodeOf w); registers = 32 }
 
--- an image with its symbols
-unfoldable pub standing : List ℕ → Rv32SymbolLayout → Program
-standing image symbols = record { core = standingCore; image = image; symbols = symbols }
+-- what is run of an image
+unfoldable pub programOf : List ℕ → Rv32Program → Program
+programOf image program = record { core = standingCore; image = image; symbols = program .symbols }
 
--- the scalar run of one input; others gives the registers that are not set
-unfoldable pub standingScalarRun : List ℕ → Rv32SymbolLayout → ℕ → (ℕ → ℕ) → Option Result
-standingScalarRun image symbols input others = scalarRun (standing image symbols) maxSteps input others
+-- what the scalar run of one input answers; others gives the registers that are not set
+unfoldable pub scalarAnswer : List ℕ → Rv32Program → ℕ → (ℕ → ℕ) → Option Result
+scalarAnswer image program input others = scalarRun (programOf image program) maxSteps input others

@@ -3,10 +3,12 @@ use mathlib.Core.Bool.{_&&_}
 use mathlib.Core.List.{List, [], _∷_, _++_}
 use Prim.Native.Nat.{ℕ, zero, suc}
 use lib.Dec.{eqb}
-use lib.ListN.{set}
+use lib.ListN.{set, take}
 use Rattle.riscv_decode.specs.declared.Fetched.{Fetched}
 use Rattle.predicate_trace.specs.declared.PredicateControlStep.{PredicateControlStep}
+use Rattle.predicate_trace.specs.Trace.{stepsAt}
 use Rattle.predicate_answer.specs.declared.CompiledMmioEvent.{CompiledMmioEvent}
+use Rattle.predicate_answer.specs.declared.RecordOutcome.{RecordOutcome}
 use Rattle.predicate_semantics.specs.Choice.{choose}
 
 -- Scalar run: the state of a run
@@ -25,6 +27,15 @@ pub record Result : Type 0 where
   pub steps : ℕ
   pub trace : List PredicateControlStep
   pub events : List CompiledMmioEvent
+
+-- Record: the result that an accepted outcome and the trace beside it say
+abbrev pub resultRead : RecordOutcome → List ℕ → Result
+resultRead o t = record {
+  returnValue = o .execution .«return_value»;
+  steps = o .execution .«symbolic_transitions»;
+  trace = stepsAt 0 (o .execution .«symbolic_transitions») t;
+  events = take (o .execution .«event_count») (o .events);
+}
 
 -- what an operation changes besides the trace, and the next program counter
 pub data Effect (W : Type 0) : Type 0 where

@@ -2,7 +2,9 @@
 use mathlib.Core.Bool.{Bool, true, false}
 use mathlib.Core.Option.{Option, none, some}
 use Prim.Native.Nat.{ℕ}
-use Rattle.predicate_answer.specs.Refusal.{Refusal}
+use Rattle.predicate_answer.specs.declared.CallVerdict.{CallVerdict}
+use Rattle.predicate_answer.specs.declared.CallVerdict.the-variants as verdict
+use Rattle.predicate_answer.specs.Refusal.{Refusal, ofRun, ofCall}
 
 -- a value that passed its tests, or a refusal
 pub data Tested (A : Type 0) : Type 0 where
@@ -20,14 +22,19 @@ unfoldable pub ifPassed : {A B : Type 0} → Tested A → (A → Option B) → O
 ifPassed (passed a) f = f a
 ifPassed (refused r) f = none
 
--- a refusal by its number and role
+-- a run's refusal by its number and role
 unfoldable pub refuse : {A : Type 0} → ℕ → ℕ → Tested A
-refuse number role = refused (record { number = number; role = role })
+refuse number role = refused (ofRun (record { number = number; role = role }))
 
 -- a test, and the refusal if it fails
 unfoldable pub require : ℕ → Bool → Tested (Unit {0})
 require number true = passed tt
 require number false = refuse number 0
+
+-- what the caller chose, and the call's refusal if it is not taken
+unfoldable pub allow : CallVerdict → Tested (Unit {0})
+allow verdict.Passed = passed tt
+allow (verdict.Refused e) = refused (ofCall e)
 
 -- a value, and the refusal if there is none
 unfoldable pub found : {A : Type 0} → ℕ → Option A → Tested A

@@ -1,10 +1,15 @@
-// The symbols of an image and the constants of a run. The definitions stand in specs/.
+// What is run beside its image, and the constants of a run. The definitions stand in specs/.
 
 // The three symbols of an image: where it starts, and where it leaves its events.
 pub struct Rv32SymbolLayout {
     pub entry: u32,
     pub event_count: u32,
     pub events: u32,
+}
+
+// What is run, beside its image: its symbols.
+pub struct Rv32Program {
+    pub symbols: Rv32SymbolLayout,
 }
 
 // Where a run ends, the word that lies there, and where the stack pointer starts.

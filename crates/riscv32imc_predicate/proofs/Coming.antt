@@ -27,7 +27,7 @@ use Rattle.riscv32imc_predicate.specs.declared.Place.{Place}
 use Rattle.riscv32imc_predicate.specs.declared.Ending.{Ending}
 use Rattle.riscv32imc_predicate.specs.declared.Ending.the-variants as ending
 use Rattle.riscv32imc_predicate.specs.declared.Progress.{Progress}
-use Rattle.riscv32imc_predicate.specs.Setting.{Setting, environment, Serves, registerCount}
+use Rattle.riscv32imc_predicate.specs.Setting.{Setting, coreInForce, environment, Serves, registerCount}
 use Rattle.riscv32imc_predicate.specs.Coming.{endedBy, Ends, IsAt, Readied}
 use Rattle.riscv32imc_predicate.proofs.LaneCount.{lane-count}
 
@@ -37,18 +37,17 @@ Off false = Unit {0}
 
 -- what is fetched at a pc by every core that is in force there
 abbrev Fetches : List ℕ → List ℕ → ℕ → Tested Fetched → Type 0
-Fetches image rows pc t = (core : Core) (steps : ℕ) → InForce core steps → t ≡ fetch lanes core (seen image rows) steps pc
+Fetches image rows pc t = (core : Core) (steps : ℕ) → InForce coreInForce core steps → t ≡ fetch lanes core (seen image rows) steps pc
 
--- the standing table is in force at every step
-pub standing-in-force : (steps : ℕ) → InForce standingCore steps
-unfolding standingCore
-standing-in-force steps = record { expands = λ half. refl; decodes = λ word. refl }
+-- the code's own core is in force at every step
+pub own-in-force : (steps : ℕ) → InForce coreInForce coreInForce steps
+own-in-force steps = record { expands = λ half. refl; decodes = λ word. refl }
 
 -- so whatever is fetched reads places that there are
 fetched-reads : (image rows : List ℕ) (pc : ℕ) {f : Fetched} → Fetches image rows pc (passed f) → ReadsBelow registerCount (readingOf (meaning (f .operation) pc))
 unfolding standingCore
 fetched-reads image rows pc {f} h =
-    standing-names 0 (f .word) pc (f .operation) (fetched-decodes standingCore 0 lanes (seen image rows) pc (sym (h standingCore 0 (standing-in-force 0))))
+    standing-names 0 (f .word) pc (f .operation) (fetched-decodes coreInForce 0 lanes (seen image rows) pc (sym (h coreInForce 0 (own-in-force 0))))
 
 -- a fetched instruction, as the code has it
 pub record Has (f : Fetched) (pc : ℕ) (r : Progress) : Type 0 where

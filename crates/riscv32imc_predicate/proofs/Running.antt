@@ -20,12 +20,16 @@ use Rattle.predicate_answer.specs.declared.PredicateTransducerExecution.{Predic
 use Rattle.predicate_answer.specs.declared.Rv32Error.{Rv32Error}
 use Rattle.predicate_answer.specs.Refusal.{Refusal, refusalOf}
 use Rattle.predicate_answer.specs.Blank.{maxEvents, noEvents}
+use Rattle.predicate_answer.specs.declared.CallVerdict.{CallVerdict}
+use Rattle.predicate_answer.specs.declared.CallVerdict.the-variants as verdict
+use Rattle.predicate_answer.specs.declared.RecordAnswer.the-variants as recorded
 use Rattle.predicate_semantics.specs.declared.Rv32SymbolLayout.{Rv32SymbolLayout}
+use Rattle.predicate_semantics.specs.declared.Rv32Program.{Rv32Program}
 use Rattle.predicate_semantics.specs.Program.{stop, stopWord, eventStride, memoryEnd, imageEnd, sized, symbolsPlaced, inMemory}
 use Rattle.predicate_semantics.specs.State.{Result}
-use Rattle.predicate_semantics.specs.Tested.{Tested, passed, refused, _>>=_, refuse, require}
+use Rattle.predicate_semantics.specs.Tested.{Tested, passed, refused, _>>=_, refuse, require, allow}
 use Rattle.predicate_semantics.specs.Lane.{LaneState, Ended, laneCount, on, begin, startTests, start, laneRun, finish}
-use Rattle.predicate_semantics.specs.StandingLanes.{rangeTest}
+use Rattle.predicate_semantics.specs.Call.{rangeTest}
 use Rattle.predicate_semantics.specs.RecordRules.{numbersOver}
 use Rattle.predicate_semantics.specs.Kept.{Kept}
 use Rattle.predicate_semantics.proofs.Always.{no-pass}
@@ -43,13 +47,12 @@ use Rattle.riscv32imc_predicate.specs.declared.Ending.the-variants as en
 use Rattle.riscv32imc_predicate.specs.declared.Recorded.{Recorded}
 use Rattle.riscv32imc_predicate.specs.declared.Registers.{Registers}
 use Rattle.riscv32imc_predicate.specs.declared.Reached.{Reached}
-use Rattle.riscv32imc_predicate.specs.declared.PredicateAnswer.the-variants as answer
 use Rattle.riscv32imc_predicate.specs.declared.PredicateRun.{PredicateRun}
 use Rattle.riscv32imc_predicate.specs.Setting.{Setting, Environment, environment, firstState, rest, registersOf}
 use Rattle.riscv32imc_predicate.specs.Coming.{Ends}
 use Rattle.riscv32imc_predicate.specs.Register.{Held, StartsWith}
 use Rattle.riscv32imc_predicate.specs.Tracking.{machine, Stands, Arrives, startPlace, startRecorded}
-use Rattle.riscv32imc_predicate.specs.Reporting.{refusedRun, Reports, Counts, whole, never, wholeRun, Calls, Runs}
+use Rattle.riscv32imc_predicate.specs.Reporting.{refusedRun, reported, Counts, whole, never, wholeRun, Calls, Reports}
 use Rattle.riscv32imc_predicate.proofs.LaneCount.{lane-count}
 
 pub off : (b : Bool) → not b ≡ true → b ≡ false
@@ -83,8 +86,8 @@ numbersOf range place noted value = record {
 
 module _ (range : InputRange) (s : LaneState) where
   pub reports-refused : (t : Tested Result) (x : Rv32Error) (k : ℕ) → k ≡ s .steps → t ≡ refused (refusalOf x)
-      → {r : PredicateRun} → r ≡ refusedRun x k → Reports range s t r
-  reports-refused t x k e q h = rw (q, h) (record { says = refl; completed = e; numbers = refl; found = refl })
+      → {r : PredicateRun} → r ≡ refusedRun x k → r ≡ reported range s t
+  reports-refused t x k e q h = h ∙ ap (refusedRun x) e ∙ ap (reported range s) (sym q)
 
   module _ {place : Place} {noted : Recorded} (byte : range .last < lanes) (at : Counts place noted s) where
     numbers-are : (value : ℕ) (found : List CompiledMmioEvent) → length found ≡ length (s .locations) → length found ≤ maxEvents
@@ -98,16 +101,11 @@ module _ (range : InputRange) (s : LaneState) where
 
     pub reports-accepted : (c : Setting) (value : ℕ) (found events : List CompiledMmioEvent) → events ≡ over found noEvents
         → finish (c .program) (c .setup) s ≡ passed (resultAt s value found)
-        → Reports range s (finish (c .program) (c .setup) s)
-        (record { answer = answer.Accepted; steps = place .steps; execution = numbersOf range place noted value; events = events })
+        → record { verdict = verdict.Passed; outcome = record { answer = recorded.Accepted; execution = numbersOf range place noted value; events = events } }
+        ≡ reported range s (finish (c .program) (c .setup) s)
     reports-accepted c value found events z q =
         let f = events-located (c .program) (c .setup) s (resultAt s value found) q in
-        rw q (record {
-          says = (resultAt s value found, refl);
-          completed = at .same-steps;
-          numbers = numbers-are value found (f .0) (f .1);
-          found = z;
-        })
+        rw (q, numbers-are value found (f .0) (f .1), z) refl
 
 -- ---- before any step
 
@@ -116,25 +114,28 @@ and-right true b q = q
 and-right false true q = refl
 and-right false false q = q
 
-placed-true : (size : ℕ) (symbols : Rv32SymbolLayout) (choice : Tested (Unit {0})) (n : ℕ) → startTests size symbols choice n ≡ passed tt → symbolsPlaced symbols ≡ true
-unfolding startTests _>>=_ require refuse
+placed-true : (size : ℕ) (symbols : Rv32SymbolLayout) (choice : CallVerdict) (n : ℕ) → startTests size symbols choice n ≡ passed tt → symbolsPlaced symbols ≡ true
+unfolding startTests _>>=_ require refuse allow
 placed-true size symbols choice n = go (sized size) (symbolsPlaced symbols)
   where
-    go : (a b : Bool) → (require 1 a >>= λ _. require 2 b >>= λ _. choice >>= λ _. require 13 (leb 4 n)) ≡ passed tt → b ≡ true
+    go : (a b : Bool) → (require 1 a >>= λ _. require 2 b >>= λ _. allow choice >>= λ _. require 13 (leb 4 n)) ≡ passed tt → b ≡ true
     go true true q = refl
     go true false q = absurd (no-pass q)
     go false b q = absurd (no-pass q)
 
 -- every event lies below 2^32
-pub events-low : (size : ℕ) (symbols : Rv32SymbolLayout) (choice : Tested (Unit {0})) (n : ℕ) → startTests size symbols choice n ≡ passed tt → symbols .events + maxEvents * eventStride ≤ 2 ^ 32
+pub events-low : (size : ℕ) (symbols : Rv32SymbolLayout) (choice : CallVerdict) (n : ℕ) → startTests size symbols choice n ≡ passed tt → symbols .events + maxEvents * eventStride ≤ 2 ^ 32
 unfolding symbolsPlaced inMemory
 events-low size symbols choice n h =
     let e : ℕ = symbols .events in
     let m = and-right (inMemory (symbols .entry) && inMemory (symbols .«event_count»)) (leb imageBase e && ltb e memoryEnd) (placed-true size symbols choice n h) in
     omega (arith, ltb-true e memoryEnd (and-right (leb imageBase e) (ltb e memoryEnd) m))
 
-module _ {c : Setting} {image : List ℕ} {symbols : Rv32SymbolLayout} {range : InputRange} {limit : ℕ} {rows trace : List ℕ}
-    (k : Calls c image symbols range limit rows trace) where
+module _ {c : Setting} {image : List ℕ} {program : Rv32Program} {range : InputRange} {limit : ℕ} {rows trace : List ℕ}
+    (k : Calls c image program range limit rows trace) where
+  abbrev symbols : Rv32SymbolLayout
+  symbols = program .symbols
+
   -- what the loop is given
   abbrev pub loopEnvironment : Environment
   loopEnvironment = environment image symbols (wholeRun limit trace)
@@ -223,5 +224,5 @@ module _ {c : Setting} {image : List ℕ} {symbols : Rv32SymbolLayout} {range : 
       }
 
   pub runs-as : {e : Ended} → whole c ≡ e → {r : PredicateRun} {rows′ trace′ : List ℕ}
-      → Reports range (e .state) (e .answer) r → trace′ ≡ putEntries (c .lent) 0 (e .state .trace) → cleared rows′ ≡ cleared rows → Runs c range r rows rows′ trace′
-  runs-as same t b z = record { reports = rw same t; entries = rw same b; same-rows = z }
+      → r ≡ reported range (e .state) (e .answer) → trace′ ≡ putEntries (c .lent) 0 (e .state .trace) → cleared rows′ ≡ cleared rows → Reports c range r rows rows′ trace′
+  runs-as same t b z = record { said = rw same t; entries = rw same b; same-rows = z }

@@ -23,15 +23,15 @@ use Rattle.riscv32imc_predicate.specs.declared.Ending.the-variants as en
 use Rattle.riscv32imc_predicate.specs.declared.Progress.{Progress}
 use Rattle.riscv32imc_predicate.specs.declared.ready.Instruction.{Instruction}
 use Rattle.riscv32imc_predicate.specs.declared.ready.Instruction.the-variants as instruction
-use Rattle.riscv32imc_predicate.specs.Setting.{Setting, environment, Serves, registerCount, rest}
+use Rattle.riscv32imc_predicate.specs.Setting.{Setting, coreInForce, environment, Serves, registerCount, rest}
 
 -- what is fetched at a pc by every core that is in force there, and its action
 abbrev pub FetchesAs : List ℕ → List ℕ → ℕ → Instruction → Type 0
 FetchesAs image rows pc (instruction.Got action word size) =
-    (f : Fetched) × ((core : Core) (steps : ℕ) → InForce core steps → passed f ≡ fetch lanes core (seen image rows) steps pc)
+    (f : Fetched) × ((core : Core) (steps : ℕ) → InForce coreInForce core steps → passed f ≡ fetch lanes core (seen image rows) steps pc)
     × (action ≡ meaning (f .operation) pc) × (word ≡ f .word) × (size ≡ f .length)
 FetchesAs image rows pc (instruction.Refused e) =
-    (core : Core) (steps : ℕ) → InForce core steps → refused (refusalOf e) ≡ fetch lanes core (seen image rows) steps pc
+    (core : Core) (steps : ℕ) → InForce coreInForce core steps → refused (refusalOf e) ≡ fetch lanes core (seen image rows) steps pc
 
 -- no instruction
 abbrev pub endedBy : Ending → Progress

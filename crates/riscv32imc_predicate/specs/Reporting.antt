@@ -6,49 +6,54 @@ use lib.ListN.{length}
 use Rattle.lane_word.specs.declared.InputRange.{InputRange}
 use Rattle.lane_word.specs.Word.{lanes}
 use Rattle.lane_word.specs.Spare.{laneInputs}
-use Rattle.predicate_answer.specs.declared.PredicateTransducerExecution.{PredicateTransducerExecution}
+use Rattle.predicate_answer.specs.declared.RecordOutcome.{RecordOutcome}
 use Rattle.predicate_answer.specs.declared.Rv32Error.{Rv32Error}
-use Rattle.predicate_answer.specs.Refusal.{refusalOf}
-use Rattle.predicate_answer.specs.Blank.{noExecution, noEvents}
-use Rattle.predicate_semantics.specs.declared.Rv32SymbolLayout.{Rv32SymbolLayout}
+use Rattle.predicate_answer.specs.declared.CallError.{CallError}
+use Rattle.predicate_answer.specs.declared.CallVerdict.the-variants as verdict
+use Rattle.predicate_answer.specs.Refusal.{runRefusal, refusalOf, ofRun, ofCall, refusalAfter}
+use Rattle.predicate_answer.specs.Outcome.{acceptedOutcome, refusedOutcome, noOutcome}
+use Rattle.predicate_semantics.specs.declared.Rv32Program.{Rv32Program}
 use Rattle.predicate_semantics.specs.State.{Result}
 use Rattle.predicate_semantics.specs.Tested.{Tested, passed, refused}
 use Rattle.predicate_semantics.specs.Lane.{LaneState, Ended, finish, laneRun}
-use Rattle.predicate_semantics.specs.StandingLanes.{rangeTest}
+use Rattle.predicate_semantics.specs.Call.{rangeTest}
 use Rattle.predicate_semantics.specs.RecordRules.{numbersOver}
+use Rattle.predicate_semantics.specs.Outcome.{verdictIn}
 use Rattle.predicate_trace.specs.Trace.{entryCount, putEntries}
 use Rattle.lane_memory.specs.Rows.{rowCount, cleared}
 use Rattle.riscv32imc_predicate.specs.declared.Bounds.{Bounds}
 use Rattle.riscv32imc_predicate.specs.declared.Place.{Place}
 use Rattle.riscv32imc_predicate.specs.declared.Recorded.{Recorded}
 use Rattle.riscv32imc_predicate.specs.declared.finish.Finished.{Finished}
-use Rattle.riscv32imc_predicate.specs.declared.PredicateAnswer.{PredicateAnswer}
-use Rattle.riscv32imc_predicate.specs.declared.PredicateAnswer.the-variants as answer
+use Rattle.riscv32imc_predicate.specs.declared.start.Started.{Started}
+use Rattle.riscv32imc_predicate.specs.declared.start.Started.the-variants as started
 use Rattle.riscv32imc_predicate.specs.declared.PredicateRun.{PredicateRun}
-use Rattle.riscv32imc_predicate.specs.Outcome.{eventsIn}
 use Rattle.riscv32imc_predicate.specs.Setting.{Setting, environment, Serves}
 use Rattle.riscv32imc_predicate.specs.Finishing.{Answers}
 
--- a refusal, with the completed steps
+-- what the tests before any step come to
+abbrev pub startedOf : Started → Tested (Unit {0})
+startedOf started.Passed = passed tt
+startedOf (started.Refused x) = refused (refusalOf x)
+startedOf (started.Declined e) = refused (ofCall e)
+
+-- a refusal of the run, with the completed steps
 abbrev pub refusedRun : Rv32Error → ℕ → PredicateRun
-refusedRun x n = record { answer = answer.Refused x; steps = n; execution = noExecution; events = noEvents }
+refusedRun x n = record { verdict = verdict.Passed; outcome = refusedOutcome (refusalAfter (runRefusal x) n) }
 
--- an answer of the code is one of the semantics
-abbrev pub Says : PredicateAnswer → Tested Result → Type 0
-Says answer.Accepted t = (result : Result) × (t ≡ passed result)
-Says (answer.Refused x) t = t ≡ refused (refusalOf x)
+-- a refusal of the call
+abbrev pub refusedCall : CallError → PredicateRun
+refusedCall e = record { verdict = verdict.Refused e; outcome = noOutcome }
 
--- the numbers beside an answer, none after a refusal
-abbrev pub executionOf : InputRange → LaneState → Tested Result → PredicateTransducerExecution
-executionOf range s (passed r) = numbersOver range (s .steps) (length (s .memory)) r
-executionOf range s (refused q) = noExecution
+-- what a range's run gives that ended in a state with an answer, by the range in place of the lanes
+abbrev pub outcomeOver : InputRange → LaneState → Tested Result → RecordOutcome
+outcomeOver range s (passed r) = acceptedOutcome (numbersOver range (s .steps) (length (s .memory)) r) (r .events)
+outcomeOver range s (refused (ofRun q)) = refusedOutcome (refusalAfter q (s .steps))
+outcomeOver range s (refused (ofCall e)) = noOutcome
 
--- what the code answers of a range's run that ended in a state with an answer
-pub record Reports (range : InputRange) (s : LaneState) (t : Tested Result) (r : PredicateRun) : Type 0 where
-  pub says : Says (r .answer) t
-  pub completed : r .steps ≡ s .steps
-  pub numbers : r .execution ≡ executionOf range s t
-  pub found : r .events ≡ eventsIn t
+-- what the code answers of it
+abbrev pub reported : InputRange → LaneState → Tested Result → PredicateRun
+reported range s t = record { verdict = verdictIn t; outcome = outcomeOver range s t }
 
 -- a place and a count of events are of a state, and so many operations fit a word
 pub record Counts (place : Place) (noted : Recorded) (s : LaneState) : Type 0 where
@@ -62,7 +67,7 @@ abbrev pub Answered : InputRange → Place → Recorded → Finished → Predica
 Answered range place noted finished r =
     (c : Setting) (s : LaneState) → Counts place noted s
     → Answers (finished .verdict) (finished .«return_value») (finished .events) s (finish (c .program) (c .setup) s)
-    → Reports range s (finish (c .program) (c .setup) s) r
+    → r ≡ reported range s (finish (c .program) (c .setup) s)
 
 -- more steps than any run has
 abbrev pub never : ℕ
@@ -77,8 +82,8 @@ abbrev pub whole : Setting → Ended
 whole c = laneRun (c .program) (c .setup) (c .limit)
 
 -- what the run is called with is a setting's
-pub record Calls (c : Setting) (image : List ℕ) (symbols : Rv32SymbolLayout) (range : InputRange) (limit : ℕ) (rows trace : List ℕ) : Type 0 where
-  pub serves : Serves c (environment image symbols (wholeRun limit trace))
+pub record Calls (c : Setting) (image : List ℕ) (program : Rv32Program) (range : InputRange) (limit : ℕ) (rows trace : List ℕ) : Type 0 where
+  pub serves : Serves c (environment image (program .symbols) (wholeRun limit trace))
   pub same-inputs : c .setup .inputs ≡ laneInputs range
   pub same-choice : c .setup .choice ≡ rangeTest range
   pub same-rows : c .setup .rows ≡ rowCount rows
@@ -86,7 +91,7 @@ pub record Calls (c : Setting) (image : List ℕ) (symbols : Rv32SymbolLayout) (
   pub countable : lanes * limit < 2 ^ 32
 
 -- the run over rows that hold nothing yet
-pub record Runs (c : Setting) (range : InputRange) (r : PredicateRun) (rows rows′ trace′ : List ℕ) : Type 0 where
-  pub reports : Reports range (whole c .state) (whole c .answer) r
+pub record Reports (c : Setting) (range : InputRange) (r : PredicateRun) (rows rows′ trace′ : List ℕ) : Type 0 where
+  pub said : r ≡ reported range (whole c .state) (whole c .answer)
   pub entries : trace′ ≡ putEntries (c .lent) 0 (whole c .state .trace)
   pub same-rows : cleared rows′ ≡ cleared rows

@@ -1,17 +1,14 @@
 -- What a run is given, as one value: everything that the code tracks is stated over it.
-use mathlib.Core.Option.{some}
 use mathlib.Core.List.{List}
 use mathlib.Core.Path.{_≡_}
 use Prim.Native.Nat.{ℕ, _-_, _^_, _≤_, _<_}
 use lib.ListN.{length}
-use Rattle.riscv_decode.specs.declared.Operation.{Operation}
 use Rattle.lane_word.specs.Word.{lanes}
-use Rattle.predicate_action.specs.Meaning.{meaning}
-use Rattle.predicate_action.specs.Reading.{readingOf, ReadsBelow}
 use Rattle.predicate_semantics.specs.declared.Rv32SymbolLayout.{Rv32SymbolLayout}
-use Rattle.predicate_semantics.specs.Program.{Program}
+use Rattle.predicate_semantics.specs.Program.{Core, Program}
+use Rattle.predicate_semantics.specs.Standing.{standingCore}
 use Rattle.predicate_semantics.specs.Lane.{LaneState, Setup, Ended, run, begin}
-use Rattle.lane_access.specs.InForce.{InForce}
+use Rattle.lane_access.specs.InForce.{InForce, NamesRegisters}
 use Rattle.riscv32imc_predicate.specs.declared.Bounds.{Bounds}
 
 -- a program, its inputs and lent space, the most steps, and the lent trace before any step
@@ -37,16 +34,21 @@ rest c s = run (c .program) (c .setup) (c .limit - s .steps) s
 abbrev pub registerCount : ℕ
 registerCount = 32
 
+-- the core that the code has
+abbrev pub coreInForce : Core
+coreInForce = standingCore
+
 -- what a call of the loop is given and does not change
 pub record Environment : Type 0 where
+  pub core : Core
   pub image : List ℕ
   pub symbols : Rv32SymbolLayout
   pub bounds : Bounds
 
 abbrev pub environment : List ℕ → Rv32SymbolLayout → Bounds → Environment
-environment image symbols bounds = record { image = image; symbols = symbols; bounds = bounds }
+environment image symbols bounds = record { core = coreInForce; image = image; symbols = symbols; bounds = bounds }
 
--- that is a setting's: its image and symbols, its limit and entries, words of as many lanes as inputs, the table in force after any
+-- that is a setting's: its image and symbols, its limit and entries, words of as many lanes as inputs, its core in force after any
 -- number of steps, and registers that the code has places for
 pub record Serves (c : Setting) (g : Environment) : Type 0 where
   pub same-image : c .program .image ≡ g .image
@@ -55,9 +57,8 @@ pub record Serves (c : Setting) (g : Environment) : Type 0 where
   pub small-limit : c .limit < 2 ^ 32
   pub same-entries : c .setup .entries ≡ g .bounds .entries
   pub same-lanes : length (c .setup .inputs) ≡ lanes
-  pub in-force : (steps : ℕ) → InForce (c .program .core) steps
-  -- what the table decodes reads registers that there are
-  pub names : (steps word at : ℕ) (o : Operation) → c .program .core .decode steps word ≡ some o → ReadsBelow (registersOf c) (readingOf (meaning o at))
+  pub in-force : (steps : ℕ) → InForce (g .core) (c .program .core) steps
+  pub names : NamesRegisters (c .program .core)
   -- the return value's among them
   pub least-registers : 10 < registersOf c
   pub most-registers : registersOf c ≤ registerCount

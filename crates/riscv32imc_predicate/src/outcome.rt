@@ -2,12 +2,12 @@
 use super::Bounds;
 use super::Ending;
 use super::Place;
-use super::PredicateAnswer;
 use super::PredicateRun;
 use super::Recorded;
 use super::finish::Finished;
 use super::finish::finish;
 use super::run::advance;
+use super::start::Started;
 use super::start::range_test;
 use super::start::start_place;
 use super::start::start_recorded;
@@ -17,11 +17,15 @@ use super::start::told_input;
 use lane_access::Verdict;
 use lane_word::InputRange;
 use lane_word::LaneWord;
+use predicate_answer::CallError;
+use predicate_answer::CallVerdict;
 use predicate_answer::PredicateTransducerExecution;
+use predicate_answer::RecordAnswer;
+use predicate_answer::RecordOutcome;
 use predicate_answer::Rv32Error;
-use predicate_answer::no_events;
-use predicate_answer::no_execution;
-use predicate_semantics::Rv32SymbolLayout;
+use predicate_answer::no_outcome;
+use predicate_answer::refused_outcome;
+use predicate_semantics::Rv32Program;
 use predicate_semantics::STOP;
 use predicate_semantics::STOP_WORD;
 use predicate_trace::ENTRY_BYTES;
@@ -30,7 +34,7 @@ ghost use mathlib.Core.List.{[]};
 ghost use Rattle.lane_memory.specs.Rows.{rowCount};
 ghost use Rattle.lane_memory.specs.Holds.{Holds};
 ghost use Rattle.riscv32imc_predicate.specs.Setting.{Setting};
-ghost use Rattle.riscv32imc_predicate.specs.Reporting.{refusedRun, wholeRun, Answered, Calls, Runs};
+ghost use Rattle.riscv32imc_predicate.specs.Reporting.{refusedRun, refusedCall, wholeRun, Answered, Calls, Reports};
 
 // More steps than any run has, so that none pauses.
 const NEVER: u32 = 0xFFFF_FFFF;
@@ -39,10 +43,18 @@ fn refused(error: Rv32Error, steps: u32) -> PredicateRun
     ensures { λ r. ⌜ r ≡ refusedRun error steps ⌝ }
 {
     PredicateRun {
-        answer: PredicateAnswer::Refused(error),
-        steps,
-        execution: no_execution(),
-        events: no_events(),
+        verdict: CallVerdict::Passed,
+        outcome: refused_outcome(error.after(steps)),
+    }
+}
+
+// No run, and so no outcome.
+fn declined(error: CallError) -> PredicateRun
+    ensures { λ r. ⌜ r ≡ refusedCall error ⌝ }
+{
+    PredicateRun {
+        verdict: CallVerdict::Refused(error),
+        outcome: no_outcome(),
     }
 }
 
@@ -54,10 +66,8 @@ fn answered(range: InputRange, place: Place, recorded: Recorded, finished: Finis
     let lane_count = range.count();
     match verdict {
         Verdict::Refused(error) => refused(error, place.steps),
-        Verdict::Passed => PredicateRun {
-            answer: PredicateAnswer::Accepted,
-            steps: place.steps,
-            execution: PredicateTransducerExecution {
+        Verdict::Passed => {
+            let execution = PredicateTransducerExecution {
                 first_input: range.first,
                 lane_count,
                 return_value: finished.return_value,
@@ -65,9 +75,17 @@ fn answered(range: InputRange, place: Place, recorded: Recorded, finished: Finis
                 lane_value_operations: rv32_arithmetic::rv32_mul(lane_count as u32, place.steps),
                 sparse_memory_bytes: place.written,
                 event_count: (recorded.count % 256) as u8,
-            },
-            events,
-        },
+            };
+            let outcome = RecordOutcome {
+                answer: RecordAnswer::Accepted,
+                execution,
+                events,
+            };
+            PredicateRun {
+                verdict: CallVerdict::Passed,
+                outcome,
+            }
+        }
     }
 }
 
@@ -85,42 +103,46 @@ fn whole_run(limit: u32, trace: &[u8]) -> Bounds
 // The run of a range's inputs, in at most `limit` steps.
 pub fn run(
     image: &[u8],
-    symbols: Rv32SymbolLayout,
+    program: Rv32Program,
     range: InputRange,
     limit: u32,
     rows: &mut [u8],
     trace: &mut [u8],
 ) -> PredicateRun
     requires { ⌜ Holds (now rows) (rowCount (now rows)) [] ⌝ }
-    ensures { λ r. ⌜ ((c : Setting) → Calls c (now (image .entry)) symbols range limit (now (rows .entry)) (now (trace .entry)) → Runs c range r (now (rows .entry)) (now (rows .exit)) (now (trace .exit))) ⌝ }
+    ensures { λ r. ⌜ ((c : Setting) → Calls c (now (image .entry)) program range limit (now (rows .entry)) (now (trace .entry)) → Reports c range r (now (rows .entry)) (now (rows .exit)) (now (trace .exit))) ⌝ }
 {
+    let symbols = program.symbols;
     let choice = range_test(range);
     let started = start_test(image.len(), symbols, choice, lane_memory::row_count(rows));
-    if let Verdict::Refused(error) = started {
-        return refused(error, 0);
-    }
-    lane_memory::store_value(rows, STOP, 4, STOP_WORD);
-    let bounds = whole_run(limit, trace);
-    let told = told_input(range);
-    let reached = advance(
-        start_place(symbols.entry),
-        start_registers(LaneWord::input_domain(range), told),
-        start_recorded(),
-        image,
-        symbols,
-        rows,
-        trace,
-        bounds,
-    );
-    let ending = reached.ending;
-    let place = reached.place;
-    match ending {
-        Ending::Refused(error) => refused(error, place.steps),
-        Ending::Paused => refused(Rv32Error::StepLimit, place.steps),
-        Ending::Arrived => {
-            let recorded = reached.recorded;
-            let finished = finish(recorded, reached.x10, image, symbols, rows);
-            answered(range, place, recorded, finished)
+    match started {
+        Started::Refused(error) => refused(error, 0),
+        Started::Declined(error) => declined(error),
+        Started::Passed => {
+            lane_memory::store_value(rows, STOP, 4, STOP_WORD);
+            let bounds = whole_run(limit, trace);
+            let told = told_input(range);
+            let reached = advance(
+                start_place(symbols.entry),
+                start_registers(LaneWord::input_domain(range), told),
+                start_recorded(),
+                image,
+                symbols,
+                rows,
+                trace,
+                bounds,
+            );
+            let ending = reached.ending;
+            let place = reached.place;
+            match ending {
+                Ending::Refused(error) => refused(error, place.steps),
+                Ending::Paused => refused(Rv32Error::StepLimit, place.steps),
+                Ending::Arrived => {
+                    let recorded = reached.recorded;
+                    let finished = finish(recorded, reached.x10, image, symbols, rows);
+                    answered(range, place, recorded, finished)
+                }
+            }
         }
     }
 }

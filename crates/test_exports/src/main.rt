@@ -1,4 +1,4 @@
-// Calls what C calls, and the library's run_image and run_range, on the lists of standard input and the files that the arguments name, which
+// Calls what C calls, and the library's run_with, on the lists of standard input and the files that the arguments name, which
 // oracle/exports makes, and prints every answer, every word of an outcome by its place, and every lent byte afterwards.
 mod files;
 mod records;

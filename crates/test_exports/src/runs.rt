@@ -9,6 +9,7 @@ use super::show::say_bytes;
 use lane_library::RunAnswer;
 use lane_record::WriteAnswer;
 use lane_word::InputRange;
+use predicate_semantics::Rv32Program;
 use predicate_semantics::Rv32SymbolLayout;
 use test_support::fill;
 use test_support::next;
@@ -96,7 +97,7 @@ fn ran(answer: RunAnswer, written: &mut u64) -> u32 {
     }
 }
 
-// The library's own functions: 3 is run_image, any other run_range.
+// The library's own function.
 fn library(
     call: Call,
     image: &[u8],
@@ -107,15 +108,12 @@ fn library(
 ) -> u32 {
     let symbols = call.symbols;
     let range = call.range;
-    if call.function == 3 {
-        let answer = lane_library::run_image(image, symbols, rows, trace, output);
-        return wrote(answer, written);
-    }
-    let answer = lane_library::run_range(image, symbols, range, rows, trace, output);
+    let program = Rv32Program { symbols };
+    let answer = lane_library::run_with(image, program, range, rows, trace, output);
     ran(answer, written)
 }
 
-// 0, 1 and 2 are C's functions.
+// 0 to 3 are C's functions.
 fn answer_of(
     call: Call,
     image: &[u8],
@@ -140,6 +138,18 @@ fn answer_of(
             written,
         ),
         2 => lane_exports::lane_run_range(
+            image,
+            symbols.entry,
+            symbols.event_count,
+            symbols.events,
+            range.first,
+            range.last,
+            rows,
+            trace,
+            output,
+            written,
+        ),
+        3 => lane_exports::lane_run_with_plain(
             image,
             symbols.entry,
             symbols.event_count,

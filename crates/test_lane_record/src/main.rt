@@ -1,9 +1,6 @@
 // Runs the record's reader and writer on document 01's record, on records that break one rule each, on records of other ranges, and on
 // lent memory of every length around the border, and prints what they answer: 0 for done, else document 01's number.
 use lane_record::ReadAnswer;
-use lane_record::RecordAnswer;
-use lane_record::RecordOutcome;
-use lane_record::RecordRefusal;
 use lane_record::WriteAnswer;
 use little_endian::get_u8;
 use little_endian::get_u16;
@@ -13,6 +10,9 @@ use little_endian::put_u16;
 use little_endian::put_u32;
 use predicate_answer::CompiledMmioEvent;
 use predicate_answer::PredicateTransducerExecution;
+use predicate_answer::RecordAnswer;
+use predicate_answer::RecordOutcome;
+use predicate_answer::RecordRefusal;
 use test_support::end_line;
 use test_support::say;
 use test_support::unlike;

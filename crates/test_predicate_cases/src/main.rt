@@ -8,11 +8,14 @@
 use lane_word::InputRange;
 use little_endian::get_u8;
 use little_endian::get_u32;
+use predicate_answer::CallVerdict;
 use predicate_answer::CompiledMmioEvent;
 use predicate_answer::PredicateTransducerExecution;
+use predicate_answer::RecordAnswer;
+use predicate_answer::RecordOutcome;
+use predicate_semantics::Rv32Program;
 use predicate_semantics::Rv32SymbolLayout;
 use predicate_trace::ENTRY_BYTES;
-use riscv32imc_predicate::PredicateAnswer;
 use riscv32imc_predicate::PredicateRun;
 use test_support::end_line;
 use test_support::fill;
@@ -64,18 +67,42 @@ fn say_execution(execution: PredicateTransducerExecution) {
 }
 
 // Number, role and steps; after an accepted run its answer.
-fn say_answer(run: PredicateRun) {
-    let answer = run.answer;
+fn say_outcome(outcome: RecordOutcome) {
+    let answer = outcome.answer;
+    let execution = outcome.execution;
     match answer {
-        PredicateAnswer::Refused(error) => {
+        RecordAnswer::Refused(refusal) => {
+            say(b": ", refusal.number as u64);
+            say(b" ", refusal.role as u64);
+            say(b" ", refusal.steps as u64);
+        }
+        RecordAnswer::Accepted => {
+            say(b": 0 0 ", execution.symbolic_transitions as u64);
+            say_execution(execution);
+        }
+    }
+}
+
+// A refused call has a number alone.
+fn say_answer(run: PredicateRun) {
+    let verdict = run.verdict;
+    let outcome = run.outcome;
+    match verdict {
+        CallVerdict::Refused(error) => {
             say(b": ", error.number() as u64);
-            say(b" ", error.role() as u64);
-            say(b" ", run.steps as u64);
+            say(b" ", 0);
+            say(b" ", 0);
         }
-        PredicateAnswer::Accepted => {
-            say(b": 0 0 ", run.steps as u64);
-            say_execution(run.execution);
-        }
+        CallVerdict::Passed => say_outcome(outcome),
+    }
+}
+
+// How many steps were completed.
+fn steps_of(outcome: RecordOutcome) -> u32 {
+    let answer = outcome.answer;
+    match answer {
+        RecordAnswer::Refused(refusal) => refusal.steps,
+        RecordAnswer::Accepted => outcome.execution.symbolic_transitions,
     }
 }
 
@@ -101,20 +128,23 @@ fn unlike_after(rows: &[u8], trace: &[u8], steps: u32) -> u64 {
 
 fn run_lent(
     image: &[u8],
-    symbols: Rv32SymbolLayout,
+    program: Rv32Program,
     range: InputRange,
     rows: &mut [u8],
     trace: &mut [u8],
 ) {
     fill(rows, BEFORE);
     fill(trace, BEFORE);
-    let run = riscv32imc_predicate::execute_predicate(image, symbols, range, rows, trace);
-    let events = run.events;
+    let run = riscv32imc_predicate::execute_predicate(image, program, range, rows, trace);
+    let outcome = run.outcome;
+    let events = outcome.events;
+    let execution = outcome.execution;
+    let steps = steps_of(outcome);
     say_answer(run);
-    say_last(trace, run.steps);
-    say(b", unlike ", unlike_after(rows, trace, run.steps));
+    say_last(trace, steps);
+    say(b", unlike ", unlike_after(rows, trace, steps));
     end_line();
-    say_events(events, run.execution.event_count);
+    say_events(events, execution.event_count);
 }
 
 fn next_symbols() -> Rv32SymbolLayout {
@@ -142,6 +172,7 @@ fn next_range() -> InputRange {
 fn next_case(image: &mut [u8], rows: &mut [u8], trace: &mut [u8]) {
     say_next();
     let symbols = next_symbols();
+    let program = Rv32Program { symbols };
     let range = next_range();
     let size = next_size(image.len());
     let rows_size = next_size(rows.len());
@@ -150,7 +181,7 @@ fn next_case(image: &mut [u8], rows: &mut [u8], trace: &mut [u8]) {
     next_bytes(image);
     run_lent(
         &image[..size],
-        symbols,
+        program,
         range,
         &mut rows[..rows_size],
         &mut trace[..trace_size],

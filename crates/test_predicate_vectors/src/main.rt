@@ -1,8 +1,9 @@
 // Runs the images on standard input, which oracle/run_vectors makes of the published tests of loads, stores, branches, jumps,
 // FENCE.I and the upper halves of a product and of tests of FENCE, and prints for each operation how many there are and how many
 // returned something else.
+use predicate_answer::RecordAnswer;
+use predicate_semantics::Rv32Program;
 use predicate_semantics::Rv32SymbolLayout;
-use riscv32imc_predicate::PredicateAnswer;
 use test_support::differs;
 use test_support::next;
 use test_support::next_bytes;
@@ -18,18 +19,20 @@ fn run_differs(image: &[u8], result: u32) -> u64
         event_count: 0x8000_1000,
         events: 0x8000_1004,
     };
+    let program = Rv32Program { symbols };
     let mut rows = [0u8; 26400];
     let mut trace = [0u8; 6500];
     let run = riscv32imc_predicate::execute_invalid_channel_predicate(
         image,
-        symbols,
+        program,
         &mut rows,
         &mut trace,
     );
-    let answer = run.answer;
+    let outcome = run.outcome;
+    let answer = outcome.answer;
     match answer {
-        PredicateAnswer::Refused(_) => 1,
-        PredicateAnswer::Accepted => differs(run.execution.return_value, result),
+        RecordAnswer::Refused(_) => 1,
+        RecordAnswer::Accepted => differs(outcome.execution.return_value, result),
     }
 }
 

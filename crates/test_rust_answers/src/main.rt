@@ -1,6 +1,5 @@
 // Replays the list of the Rust's answers on standard input, which oracle/lanes makes: runs each input, holds its record against the
 // list's, byte for byte, and prints for each number and role of a refusal how many cases there are and how many differ.
-use lane_record::WriteAnswer;
 use little_endian::get_u8;
 use test_support::next;
 use test_support::next_bytes;
@@ -30,11 +29,10 @@ fn agrees(input: &[u8], record: &[u8]) -> bool {
     let mut trace = [BEFORE; TRACE_BYTES];
     let mut output = [BEFORE; RECORD_BYTES];
     let answer = lane_library::run_input(input, &mut rows, &mut trace, &mut output);
-    match answer {
-        WriteAnswer::Written(n) => starts(&output, n, record)
-            && unlike(&rows, 0, ROWS_BYTES, 0) == 0,
-        _ => false,
+    if answer.number() != 0 {
+        return false;
     }
+    starts(&output, answer.written(), record) && unlike(&rows, 0, ROWS_BYTES, 0) == 0
 }
 
 // Sixteen times a refusal's number, and its role; 0 for an accepted run.

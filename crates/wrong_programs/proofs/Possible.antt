@@ -43,5 +43,5 @@ all-possible = record {
   events-invented = (accepting, (λ x y a v n. refl, λ x. refl));
   unset-as-zero = (accepting, λ x r h. refl);
   rows-left = (refusing, λ x. refl);
-  range-ignored = (refusing, λ x y b l. refl);
+  range-ignored = (refusing, λ x y i p l. refl);
 }

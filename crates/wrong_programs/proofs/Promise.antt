@@ -1,6 +1,6 @@
 -- The wrong programs against a promise alone: two scalar runs that no one answer can be of.
 use mathlib.Core.Path.{_≡_, refl, sym, ap, _∙_}
-use mathlib.Core.Bool.{true, false, true≢false}
+use mathlib.Core.Bool.{true, true≢false}
 use mathlib.Core.List.{List, [], _∷_}
 use mathlib.Core.Option.{Option, none, some}
 use Prim.Native.Nat.{ℕ, _+_, _≤_, _<_}
@@ -10,15 +10,15 @@ use Rattle.predicate_trace.specs.declared.PredicateControlStep.{PredicateContro
 use Rattle.predicate_answer.specs.declared.CompiledMmioEvent.{CompiledMmioEvent}
 use Rattle.predicate_answer.specs.declared.PredicateTransducerExecution.{PredicateTransducerExecution}
 use Rattle.predicate_semantics.specs.State.{Result}
-use Rattle.predicate_semantics.specs.Standing.{standingScalarRun}
+use Rattle.predicate_semantics.specs.Standing.{scalarAnswer}
 use Rattle.lane_record.specs.Format.{Record, accepted, refused}
-use Rattle.wrong_programs.specs.Inputs.{Input, imageOf, symbolsOf, returnsInput, returnsUnset, returns1, returns0, jumpFirst, nopFirst, raises2, raises3}
+use Rattle.wrong_programs.specs.Inputs.{Input, returnsInput, returnsUnset, returns1, returns0, jumpFirst, nopFirst, raises2, raises3}
 use Rattle.wrong_programs.specs.Behaviours.{Observed, isAccepted, numbers, events, steps, Agree}
 use Rattle.wrong_programs.specs.Refuted.{PromiseRefuted}
 use Rattle.wrong_programs.proofs.Table.{runs, images, Computed, operation, different, unset-zero}
 
 abbrev scalarAt : Input → ℕ → (ℕ → ℕ) → Option Result
-scalarAt x i others = standingScalarRun (imageOf x) (symbolsOf x) i others
+scalarAt x i others = scalarAnswer (x .image) (x .program) i others
 
 -- what a record says of its run
 abbrev pub resultOf : PredicateTransducerExecution → List CompiledMmioEvent → List PredicateControlStep → Result

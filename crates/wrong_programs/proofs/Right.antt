@@ -1,201 +1,163 @@
 -- What each contract says of what is seen: the record, the rows and the trace of the definition's run. Assumes nothing.
-use mathlib.Core.Path.{_≡_, refl, sym, ap, _∙_, subst}
-use mathlib.Core.Bool.{Bool, true, false, cond, _&&_}
-use mathlib.Core.Option.{none, some}
+use mathlib.Core.Path.{_≡_, refl, ap, _∙_}
+use mathlib.Core.Bool.{Bool, true, false, cond, _&&_, _||_}
+use mathlib.Core.Option.{Option, some}
 use mathlib.Core.List.{List}
-use Prim.Native.Nat.{ℕ}
-use lib.Dec.{leb}
-use lib.ListN.{length, take, drop}
+use Prim.Native.Nat.{ℕ, _≤_}
+use native.Mathlib.Omega.{arith}
+use borrow.Author.Tests.{le-leb, leb-true, eqb-true}
+use lib.Dec.{T, eqb, leb}
+use lib.ListN.{length, drop}
 use lib.Seq.{take-append-seam}
 use Rattle.little_endian.specs.Lent.{over}
-use Rattle.lane_word.specs.declared.InputRange.{InputRange}
-use Rattle.predicate_semantics.specs.declared.Rv32SymbolLayout.{Rv32SymbolLayout}
+use Rattle.riscv32imc.specs.Constants.{maxSteps}
+use Rattle.predicate_trace.specs.declared.PredicateControlStep.{PredicateControlStep}
+use Rattle.predicate_answer.specs.declared.CallVerdict.{CallVerdict}
+use Rattle.predicate_answer.specs.declared.CompiledMmioEvent.{CompiledMmioEvent}
+use Rattle.predicate_answer.specs.declared.PredicateTransducerExecution.{PredicateTransducerExecution}
+use Rattle.predicate_answer.specs.declared.RecordOutcome.{RecordOutcome}
+use Rattle.predicate_answer.specs.declared.RecordRefusal.{RecordRefusal}
+use Rattle.predicate_answer.specs.Blank.{lastRefusal, lastRole}
+use Rattle.predicate_answer.specs.Refusal.{RunRefusal, Refusal, ofRun, ofCall, numberOf, refusalAfter}
 use Rattle.predicate_semantics.specs.State.{Result}
 use Rattle.predicate_semantics.specs.Tested.{Tested, passed}
 use Rattle.predicate_semantics.specs.Tested as Tested
-use Rattle.predicate_semantics.specs.Lane.{LaneState}
-use Rattle.lane_memory.specs.LentRows.{rowCount, cleared}
-use Rattle.lane_record.specs.declared.WriteAnswer.{WriteAnswer}
+use Rattle.predicate_semantics.specs.Lane.{execution}
+use Rattle.predicate_semantics.specs.RecordRules.{proper}
+use Rattle.predicate_semantics.specs.Call.{Call, programIn, setupOf, runOf}
+use Rattle.predicate_semantics.specs.Outcome.{verdictIn, verdictOn, outcomeIn}
+use Rattle.predicate_semantics.proofs.RecordRules.{refused-proper}
+use Rattle.predicate_semantics.proofs.TraceFits.{call-completed, call-accepted, read-back}
+use Rattle.lane_memory.specs.LentRows.{cleared}
 use Rattle.lane_record.specs.Format.{Record, accepted, refused, encode}
-use Rattle.lane_record.specs.Rules.{valid}
+use Rattle.lane_record.specs.Rules.{within, roleValid, refusalValid, valid}
 use Rattle.lane_record.specs.Decode.{executionAt, acceptedAt, acceptedForm, ruled, decodeRecord}
-use Rattle.lane_record.specs.Answers.{Said, refuses, writeSaid, writeAnswer, writeOutput}
-use Rattle.lane_record.specs.Runs.{hasRecord, recordIn}
-use Rattle.predicate_trace.specs.Trace.{entryCount}
-use Rattle.riscv32imc_predicate.specs.Outcome.{executionIn}
-use Rattle.lane_library.specs.declared.RunAnswer.{RunAnswer}
-use Rattle.lane_library.specs.Inputs.{taken}
-use Rattle.lane_library.specs.Outcome.{ranSaid, imageRecord, imageTrace, refusalNumber}
-use Rattle.lane_library.specs.Outcome as Library
-use Rattle.wrong_programs.specs.Inputs.{Input, imageOf, symbolsOf, runAt}
+use Rattle.lane_record.specs.Answers.{wrote, refuses, writeOutput}
+use Rattle.lane_record.specs.Runs.{recordIn, recordOf}
+use Rattle.lane_record.proofs.TestLaws.{both, yes}
+use Rattle.lane_record.proofs.DecodeLaws.{decode-encode}
+use Rattle.riscv32imc_predicate.specs.Outcome.{traceAfter}
+use Rattle.lane_library.specs.Outcome.{answerBy}
+use Rattle.wrong_programs.specs.Inputs.{Input, callAt}
 use Rattle.wrong_programs.specs.Behaviours.{Observed, noSpaceAtOnce}
-use Rattle.wrong_programs.specs.Refuted.{Suffices, NeverAtOnce, RunOutput, recordOf, seenOfRun, RunMeets, LibraryOutput, written, seenOf, InputMeets, ImageMeets, RangeMeets}
+use Rattle.wrong_programs.specs.Refuted.{NeverAtOnce, RunOutput, recordBy, seenOfRun, RunMeets, LibraryOutput, written, seenOf, LibraryMeets}
 
-abbrev pub recordAt : Input → Record
-recordAt x = imageRecord (imageOf x) (symbolsOf x) (x .range) (x .rows) (x .trace)
+abbrev pub recordAt : Input → Option Record
+recordAt x = recordOf (callAt x)
 
 abbrev pub traceAt : Input → List ℕ
-traceAt x = imageTrace (imageOf x) (symbolsOf x) (x .range) (x .rows) (x .trace)
+traceAt x = traceAfter (callAt x) (x .trace)
 
 pub record Right (x : Input) (o : Observed) : Type 0 where
-  pub recorded : o .recorded ≡ some (recordAt x)
+  pub recorded : o .recorded ≡ recordAt x
   pub rows : o .rows ≡ cleared (x .rows)
   pub trace : o .trace ≡ traceAt x
 
 -- ---- the run
 
-record-in : (image : List ℕ) (symbols : Rv32SymbolLayout) (range : InputRange) (n entries : ℕ) (s : LaneState) (t : Tested Result)
-    → recordOf (executionIn image symbols range n entries s t) (s .steps) t ≡ recordIn image symbols range n entries s t
-record-in image symbols range n entries s (passed r) = refl
-record-in image symbols range n entries s (Tested.refused q) = refl
+-- what is seen of a verdict, an outcome and a trace
+abbrev outcomeSeen : CallVerdict → RecordOutcome → List ℕ → Option Record
+outcomeSeen v o t = recordBy v (o .answer) (o .execution) (o .events) t
+
+-- of a call's own it is the call's record
+seen-by : (c : Call) (t : List ℕ) (a : Tested Result) → runOf c .answer ≡ a
+    → outcomeSeen (verdictIn a) (outcomeIn c (runOf c .state) a) (traceAfter c t) ≡ recordIn c (runOf c .state) a
+seen-by c t (passed r) q =
+    rw (call-accepted c r q .trace)
+    (ap (λ (y : Result). some (accepted (execution (programIn c) (setupOf c) (runOf c .state) r) (y .events) (y .trace))) (read-back c r q t))
+seen-by c t (Tested.refused (ofRun f)) q = refl
+seen-by c t (Tested.refused (ofCall e)) q = refl
 
 pub run-right : (x : Input) (o : RunOutput) → RunMeets x o → Right x (seenOfRun o)
 run-right x o h = record {
-  recorded = ap (λ (y : Record). some y) (rw (h .result, h .completed, h .numbers) (record-in (imageOf x) (symbolsOf x) (x .range) (rowCount (x .rows)) (entryCount (x .trace)) ((runAt x) .state) ((runAt x) .answer)));
+  recorded = rw (h .verdict, h .outcome, h .entries) (seen-by (callAt x) (x .trace) (runOf (callAt x) .answer) refl);
   rows = h .zero;
   trace = h .entries;
 }
 
--- the record of a run that what is lent suffices for
-record Accepting (x : Input) : Type 0 where
-  result : Result
-  recorded : recordAt x ≡ recordIn (imageOf x) (symbolsOf x) (x .range) (rowCount (x .rows)) (entryCount (x .trace)) ((runAt x) .state) (passed result)
-  has : hasRecord ((runAt x) .answer) ≡ true
+-- an answer that is no refusal for want of space
+abbrev HasSpace : Tested Result → Type 0
+HasSpace a = (r : Refusal) → a ≡ Tested.refused r → (eqb (numberOf r) 13 || eqb (numberOf r) 14) ≡ false
 
-accepting : (x : Input) → Suffices x → Accepting x
-accepting x (r, e) = record {
-  result = r;
-  recorded = ap (recordIn (imageOf x) (symbolsOf x) (x .range) (rowCount (x .rows)) (entryCount (x .trace)) ((runAt x) .state)) e;
-  has = ap hasRecord e;
-}
-
--- it is no refusal
-suffices-accepted : (x : Input) → Suffices x → noSpaceAtOnce (some (recordAt x)) ≡ false
-suffices-accepted x h = ap (λ (y : Record). noSpaceAtOnce (some y)) (accepting x h .recorded)
+-- .. has no record that is one
+record-no-space : (c : Call) (a : Tested Result) → HasSpace a → noSpaceAtOnce (recordIn c (runOf c .state) a) ≡ false
+record-no-space c (passed r) h = refl
+record-no-space c (Tested.refused (ofRun q)) h = ap (λ (b : Bool). b && eqb (runOf c .state .steps) 0) (h (ofRun q) refl)
+record-no-space c (Tested.refused (ofCall e)) h = refl
 
 pub run-never : NeverAtOnce RunOutput seenOfRun RunMeets
-run-never x h o m = ap noSpaceAtOnce (run-right x o m .recorded) ∙ suffices-accepted x h
+run-never x h o m = ap noSpaceAtOnce (run-right x o m .recorded) ∙ record-no-space (callAt x) (runOf (callAt x) .answer) h
 
--- ---- what is written of a record
+-- ---- the library
 
--- the program takes the input, its run has a record, the output has room for it, and its bytes read as it
-pub record Served (x : Input) : Type 0 where
-  pub takes : taken (x .bytes) ≡ true
-  pub has : hasRecord ((runAt x) .answer) ≡ true
-  pub fits : leb (length (encode (recordAt x))) (length (x .output)) ≡ true
-  pub reads : decodeRecord (encode (recordAt x)) ≡ some (recordAt x)
+-- what is written of a verdict and a record with so much output, read again
+abbrev writtenOf : CallVerdict → Option Record → List ℕ → Option Record
+writtenOf v q output = written (answerBy v q (length output)) (writeOutput q output)
 
-module _ (y : Record) (output : List ℕ) (s : Said) (output′ : List ℕ) (a : s ≡ writeAnswer (some y) (length output)) (o : output′ ≡ writeOutput (some y) output) where
-  -- what is written, by whether it fits
-  written-is : (b : Bool) → leb (length (encode y)) (length output) ≡ b → written s output′ ≡ cond b (decodeRecord (encode y)) none
-  written-is true fits =
-      rw (a, fits) (ap decodeRecord (ap (take (length (encode y))) (o ∙ rw fits) ∙ take-append-seam (encode y) (drop (length (encode y)) output)))
-  written-is false short = rw (a, short)
+library-written : (x : Input) (o : LibraryOutput) → LibraryMeets x o → (seenOf o) .recorded ≡ writtenOf (verdictOn (callAt x)) (recordAt x) (x .output)
+library-written x o h = rw (h .answer, h .output)
 
-  -- of an accepted record, no refusal
-  written-no-space : noSpaceAtOnce (decodeRecord (encode y)) ≡ false → noSpaceAtOnce (written s output′) ≡ false
-  written-no-space e = go (leb (length (encode y)) (length output)) refl
-    where
-      go : (b : Bool) → leb (length (encode y)) (length output) ≡ b → noSpaceAtOnce (written s output′) ≡ false
-      go true f = ap noSpaceAtOnce (written-is true f) ∙ e
-      go false f = ap noSpaceAtOnce (written-is false f)
+-- the record is written, and its bytes read as it
+abbrev pub Served : Input → Type 0
+Served x = writtenOf (verdictOn (callAt x)) (recordAt x) (x .output) ≡ recordAt x
 
--- bytes that begin as an accepted record's read as no refusal
+pub library-right : (x : Input) → Served x → (o : LibraryOutput) → LibraryMeets x o → Right x (seenOf o)
+library-right x s o h = record { recorded = library-written x o h ∙ s; rows = h .zero; trace = h .entries }
+
+-- ---- .. and finds no want of space where the run does not
+
+-- the bytes of an accepted record read as no refusal
 ruled-no-space : (b : Bool) (x : Record) → noSpaceAtOnce (some x) ≡ false → noSpaceAtOnce (ruled b x) ≡ false
 ruled-no-space true x e = e
 ruled-no-space false x e = refl
 
-begins-accepted : (x : Input) → Suffices x → noSpaceAtOnce (decodeRecord (encode (recordAt x))) ≡ false
+accepted-reads : (e : PredicateTransducerExecution) (es : List CompiledMmioEvent) (ss : List PredicateControlStep)
+    → noSpaceAtOnce (decodeRecord (encode (accepted e es ss))) ≡ false
 unfolding decodeRecord
-begins-accepted x h =
-    let a = accepting x h in
-    subst (λ (y : Record). noSpaceAtOnce (decodeRecord (encode y)) ≡ false) (sym (a .recorded))
-    (let bs : List ℕ = encode (recordIn (imageOf x) (symbolsOf x) (x .range) (rowCount (x .rows)) (entryCount (x .trace)) ((runAt x) .state) (passed (a .result))) in
-    ruled-no-space (acceptedForm (executionAt bs) bs && valid (acceptedAt (executionAt bs) bs)) (acceptedAt (executionAt bs) bs) refl)
+accepted-reads e es ss =
+    let bs : List ℕ = encode (accepted e es ss) in
+    ruled-no-space (acceptedForm (executionAt bs) bs && valid (acceptedAt (executionAt bs) bs)) (acceptedAt (executionAt bs) bs) refl
 
--- ---- the library's functions
+-- those of a refusal that keeps the rules read as itself
+role-small : (b : Bool) (role : ℕ) → cond b (within 1 role lastRole) (eqb role 0) ≡ true → role ≤ lastRole
+role-small true role h = leb-true role lastRole (both (leb 1 role) (leb role lastRole) h .1)
+role-small false role h = omega (arith, eqb-true role 0 h)
 
--- what each of their contracts says, of an input whose run has a record
-record Written {Answer : Type 0} (said : Answer → Said) (x : Input) (o : LibraryOutput Answer) : Type 0 where
-  answer : said (o .answer) ≡ writeAnswer (some (recordAt x)) (length (x .output))
-  output : o .output ≡ writeOutput (some (recordAt x)) (x .output)
-  rows : o .rows ≡ cleared (x .rows)
-  trace : o .trace ≡ traceAt x
+refused-reads : (f : RecordRefusal) → refusalValid f ≡ true → decodeRecord (encode (refused f)) ≡ some (refused f)
+refused-reads f v =
+    let t = both (within 1 (f .number) lastRefusal && roleValid (f .number) (f .role)) (leb (f .steps) maxSteps) v in
+    let u = both (within 1 (f .number) lastRefusal) (roleValid (f .number) (f .role)) (t .0) in
+    let number = leb-true (f .number) lastRefusal (both (leb 1 (f .number)) (leb (f .number) lastRefusal) (u .0) .1) in
+    let role = role-small (eqb (f .number) 6 || eqb (f .number) 7) (f .role) (u .1) in
+    let steps = leb-true (f .steps) maxSteps (t .1) in
+    decode-encode (refused f) (omega (arith, number), (omega (arith, role), (omega (arith, steps), tt))) v
 
-module _ (Answer : Type 0) (said : Answer → Said) where
-  written-right : (x : Input) → Served x → (o : LibraryOutput Answer) → Written said x o → Right x (seenOf Answer said o)
-  written-right x s o w = record {
-    recorded = written-is (recordAt x) (x .output) (said (o .answer)) (o .output) (w .answer) (w .output) true (s .fits) ∙ s .reads;
-    rows = w .rows;
-    trace = w .trace;
-  }
+-- .. as a run's does
+holds : (b : Bool) → T b → b ≡ true
+holds true t = refl
+holds false t = absurd t
 
-  written-never : (x : Input) → Suffices x → (o : LibraryOutput Answer) → Written said x o → noSpaceAtOnce ((seenOf Answer said o) .recorded) ≡ false
-  written-never x h o w = written-no-space (recordAt x) (x .output) (said (o .answer)) (o .output) (w .answer) (w .output) (begins-accepted x h)
+run-refusal : (c : Call) (q : RunRefusal) → runOf c .answer ≡ Tested.refused (ofRun q) → refusalValid (refusalAfter q (runOf c .state .steps)) ≡ true
+unfolding runOf proper
+run-refusal c q h =
+    yes {t = proper q} (holds (proper q) (refused-proper (programIn c) (setupOf c) maxSteps (ofRun q) h))
+    (le-leb (runOf c .state .steps) maxSteps (call-completed c .bound))
 
--- ---- run_image
+-- what is written of a record, by whether it fits
+written-by : (x : Record) (output : List ℕ) → noSpaceAtOnce (decodeRecord (encode x)) ≡ false → (b : Bool)
+    → noSpaceAtOnce (written (cond b (wrote (length (encode x))) (refuses 16)) (cond b (over (encode x) output) output)) ≡ false
+written-by x output e true = ap (λ (bs : List ℕ). noSpaceAtOnce (decodeRecord bs)) (take-append-seam (encode x) (drop (length (encode x)) output)) ∙ e
+written-by x output e false = refl
 
-image-written : (x : Input) (o : LibraryOutput WriteAnswer) → ImageMeets x o → Written writeSaid x o
-image-written x o h = record {
-  answer = h .gives .writes .answer;
-  output = h .gives .writes .output;
-  rows = h .gives .zero;
-  trace = h .entries;
-}
+written-no-space : (c : Call) (output : List ℕ) (a : Tested Result) → runOf c .answer ≡ a → HasSpace a
+    → noSpaceAtOnce (writtenOf (verdictIn a) (recordIn c (runOf c .state) a) output) ≡ false
+written-no-space c output (passed r) q h =
+    let e = execution (programIn c) (setupOf c) (runOf c .state) r in
+    written-by (accepted e (r .events) (r .trace)) output (accepted-reads e (r .events) (r .trace)) (leb _ (length output))
+written-no-space c output (Tested.refused (ofRun f)) q h =
+    written-by (refused (refusalAfter f (runOf c .state .steps))) output
+    (ap noSpaceAtOnce (refused-reads (refusalAfter f (runOf c .state .steps)) (run-refusal c f q)) ∙ record-no-space c (Tested.refused (ofRun f)) h) (leb _ (length output))
+written-no-space c output (Tested.refused (ofCall e)) q h = refl
 
-pub image-right : (x : Input) → Served x → (o : LibraryOutput WriteAnswer) → ImageMeets x o → Right x (seenOf WriteAnswer writeSaid o)
-image-right x s o h = written-right WriteAnswer writeSaid x s o (image-written x o h)
-
-pub image-never : NeverAtOnce (LibraryOutput WriteAnswer) (seenOf WriteAnswer writeSaid) ImageMeets
-image-never x h o m = written-never WriteAnswer writeSaid x h o (image-written x o m)
-
--- ---- run_input
-
--- over the invalid channels
-abbrev atInvalid : Input → InputRange → Input
-atInvalid x range = record { bytes = x .bytes; range = range; rows = x .rows; trace = x .trace; output = x .output }
-
-input-written : (x : Input) → taken (x .bytes) ≡ true → (o : LibraryOutput WriteAnswer) → InputMeets x o → Written writeSaid x o
-input-written x t o (p, h) =
-    subst (λ (range : InputRange). Written writeSaid (atInvalid x range) o) (sym p)
-    (record {
-      answer = h .gives .writes .answer ∙ ap (λ (b : Bool). writeAnswer (some (Library.recordBy b (x .bytes) (x .rows) (x .trace))) (length (x .output))) t;
-      output = h .gives .writes .output ∙ ap (λ (b : Bool). writeOutput (some (Library.recordBy b (x .bytes) (x .rows) (x .trace))) (x .output)) t;
-      rows = h .gives .zero;
-      trace = h .entries ∙ ap (λ (b : Bool). Library.traceBy b (x .bytes) (x .rows) (x .trace)) t;
-    })
-
-pub input-right : (x : Input) → Served x → (o : LibraryOutput WriteAnswer) → InputMeets x o → Right x (seenOf WriteAnswer writeSaid o)
-input-right x s o h = written-right WriteAnswer writeSaid x s o (input-written x (s .takes) o h)
-
--- an input that is not taken is refused with 1
-reads-size : noSpaceAtOnce (decodeRecord (encode (refused Library.sizeRefusal))) ≡ false
-unfolding decodeRecord
-reads-size = refl
-
-pub input-never : NeverAtOnce (LibraryOutput WriteAnswer) (seenOf WriteAnswer writeSaid) InputMeets
-input-never x h o m = go (taken (x .bytes)) refl
-  where
-    go : (b : Bool) → taken (x .bytes) ≡ b → noSpaceAtOnce ((seenOf WriteAnswer writeSaid o) .recorded) ≡ false
-    go true t = written-never WriteAnswer writeSaid x h o (input-written x t o m)
-    go false t =
-        written-no-space (refused Library.sizeRefusal) (x .output) (writeSaid (o .answer)) (o .output)
-        (m .1 .gives .writes .answer ∙ ap (λ (b : Bool). writeAnswer (some (Library.recordBy b (x .bytes) (x .rows) (x .trace))) (length (x .output))) t)
-        (m .1 .gives .writes .output ∙ ap (λ (b : Bool). writeOutput (some (Library.recordBy b (x .bytes) (x .rows) (x .trace))) (x .output)) t)
-        reads-size
-
--- ---- run_range
-
-range-written : (x : Input) → hasRecord ((runAt x) .answer) ≡ true → (o : LibraryOutput RunAnswer) → RangeMeets x o → Written ranSaid x o
-range-written x e o h = record {
-  answer = h .answer ∙ ap (λ (b : Bool). cond b (writeAnswer (some (recordAt x)) (length (x .output))) (refuses (refusalNumber ((runAt x) .answer)))) e;
-  output = h .output ∙ ap (λ (b : Bool). cond b (writeOutput (some (recordAt x)) (x .output)) (x .output)) e;
-  rows = h .zero;
-  trace = h .entries;
-}
-
-pub range-right : (x : Input) → Served x → (o : LibraryOutput RunAnswer) → RangeMeets x o → Right x (seenOf RunAnswer ranSaid o)
-range-right x s o h = written-right RunAnswer ranSaid x s o (range-written x (s .has) o h)
-
-pub range-never : NeverAtOnce (LibraryOutput RunAnswer) (seenOf RunAnswer ranSaid) RangeMeets
-range-never x h o m = written-never RunAnswer ranSaid x h o (range-written x (accepting x h .has) o m)
+pub library-never : NeverAtOnce LibraryOutput seenOf LibraryMeets
+library-never x h o m = ap noSpaceAtOnce (library-written x o m) ∙ written-no-space (callAt x) (x .output) (runOf (callAt x) .answer) refl h

@@ -13,22 +13,22 @@ use Rattle.predicate_semantics.specs.State.{Result}
 use Rattle.predicate_semantics.specs.Tested.{passed}
 use Rattle.predicate_semantics.specs.Lane as Lane
 use Rattle.predicate_semantics.specs.Cases as Cases
-use Rattle.predicate_semantics.specs.Standing.{standingScalarRun}
-use Rattle.predicate_semantics.proofs.Computing.{expansion, decoding, words, running, scalar, standing}
+use Rattle.predicate_semantics.specs.Standing.{scalarAnswer}
+use Rattle.predicate_semantics.proofs.Computing.{expansion, decoding, words, running, scalar, calls}
 use Rattle.predicate_trace.specs.declared.PredicateControlStep.{PredicateControlStep}
 use Rattle.predicate_answer.specs.declared.CompiledMmioEvent.{CompiledMmioEvent}
 use Rattle.predicate_answer.specs.declared.PredicateTransducerExecution.{PredicateTransducerExecution}
 use Rattle.lane_memory.specs.LentRows.{cleared}
 use Rattle.lane_record.specs.Format.{Record}
 use Rattle.lane_record.specs.Decode.{decodeRecord}
-use Rattle.wrong_programs.specs.Inputs.{Input, imageOf, symbolsOf, twelveChannels, invalidOfTwelve, returnsInput, returnsUnset, returns1, returns0, jumpFirst, nopFirst, storesAtStop, storesBelow, raises2, raises3, isBelow12}
+use Rattle.wrong_programs.specs.Inputs.{Input, twelveChannels, invalidOfTwelve, returnsInput, returnsUnset, returns1, returns0, jumpFirst, nopFirst, storesAtStop, storesBelow, raises2, raises3, isBelow12}
 use Rattle.wrong_programs.specs.Behaviours.{Observed, isAccepted, numbers, otherNumbers, noSpaceAtOnce, events, steps, Agree, copied, IgnoresRange}
 use Rattle.wrong_programs.specs.Refuted.{Breaks, NeverAtOnce, Refuted, RefutedOverRanges, RunOutput, seenOfRun, RunMeets, RunRefuted}
 use Rattle.wrong_programs.proofs.Right.{Right, recordAt, traceAt, Served, run-right, run-never}
 
 -- to unfold this is to unfold what its line names
 unfoldable pub runs : Unit {0}
-unfolding expansion decoding words running scalar standing Lane.execution Lane.laneOperations Lane.writtenBytes Cases.symbols Cases.word Cases.half Cases.return1 decodeRecord
+unfolding expansion decoding words running scalar calls Lane.execution Lane.laneOperations Lane.writtenBytes Cases.symbols Cases.word Cases.half Cases.return1 decodeRecord
 runs = tt
 
 -- .. and of the images, as far as their lengths go
@@ -66,25 +66,25 @@ pub record Computed (range : InputRange) : Type 0 where
   pub served-2 : Served (raises2 range)
   pub served-3 : Served (raises3 range)
   pub copies : (r : Result) × ((copied (returnsInput range)) .answer ≡ passed r)
-  pub input-refused : isAccepted (some (recordAt (returnsInput range))) ≡ false
-  pub traces-part : Agree (steps (some (recordAt (jumpFirst range)))) (steps (some (recordAt (nopFirst range)))) → ⊥
-  pub written-at-stop : written (some (recordAt (storesAtStop range))) ≡ 4
-  pub written-below : written (some (recordAt (storesBelow range))) ≡ 8
-  pub stores-alike : otherNumbers (numbers (some (recordAt (storesAtStop range)))) ≡ otherNumbers (numbers (some (recordAt (storesBelow range))))
-  pub has-space : noSpaceAtOnce (some (recordAt (returns1 range))) ≡ false
-  pub returns-0 : returned (some (recordAt (returns0 range))) ≡ 0
-  pub returns-1 : returned (some (recordAt (returns1 range))) ≡ 1
-  pub accepts-1 : isAccepted (some (recordAt (returns1 range))) ≡ true
+  pub input-refused : isAccepted (recordAt (returnsInput range)) ≡ false
+  pub traces-part : Agree (steps (recordAt (jumpFirst range))) (steps (recordAt (nopFirst range))) → ⊥
+  pub written-at-stop : written (recordAt (storesAtStop range)) ≡ 4
+  pub written-below : written (recordAt (storesBelow range)) ≡ 8
+  pub stores-alike : otherNumbers (numbers (recordAt (storesAtStop range))) ≡ otherNumbers (numbers (recordAt (storesBelow range)))
+  pub has-space : noSpaceAtOnce (recordAt (returns1 range)) ≡ false
+  pub returns-0 : returned (recordAt (returns0 range)) ≡ 0
+  pub returns-1 : returned (recordAt (returns1 range)) ≡ 1
+  pub accepts-1 : isAccepted (recordAt (returns1 range)) ≡ true
   pub entry-byte : getD (traceAt (returns1 range)) 3 0 ≡ 0x80
   pub row-byte : getD (cleared ((returns1 range) .rows)) 0 0 ≡ 0
-  pub raised-2 : operation (events (some (recordAt (raises2 range)))) ≡ 2
-  pub raised-3 : operation (events (some (recordAt (raises3 range)))) ≡ 3
-  pub returns-alike : returned (some (recordAt (raises2 range))) ≡ returned (some (recordAt (raises3 range)))
-  pub steps-alike : stepped (some (recordAt (raises2 range))) ≡ stepped (some (recordAt (raises3 range)))
-  pub unset-refused : isAccepted (some (recordAt (returnsUnset range))) ≡ false
+  pub raised-2 : operation (events (recordAt (raises2 range))) ≡ 2
+  pub raised-3 : operation (events (recordAt (raises3 range))) ≡ 3
+  pub returns-alike : returned (recordAt (raises2 range)) ≡ returned (recordAt (raises3 range))
+  pub steps-alike : stepped (recordAt (raises2 range)) ≡ stepped (recordAt (raises3 range))
+  pub unset-refused : isAccepted (recordAt (returnsUnset range)) ≡ false
 
 -- what the scalar run of each input answers where a register is not set and holds 0
-pub unset-zero : (range : InputRange) → (r : Result) × ((i : ℕ) → standingScalarRun (imageOf (returnsUnset range)) (symbolsOf (returnsUnset range)) i (λ _. 0) ≡ some r)
+pub unset-zero : (range : InputRange) → (r : Result) × ((i : ℕ) → scalarAnswer ((returnsUnset range) .image) ((returnsUnset range) .program) i (λ _. 0) ≡ some r)
 unfolding runs
 unset-zero range = (_, λ i. refl)
 
@@ -92,16 +92,16 @@ unset-zero range = (_, λ i. refl)
 pub at-invalid : Computed invalidChannels
 unfolding runs
 at-invalid = record {
-  served-input = record { takes = refl; has = refl; fits = refl; reads = refl };
-  served-unset = record { takes = refl; has = refl; fits = refl; reads = refl };
-  served-0 = record { takes = refl; has = refl; fits = refl; reads = refl };
-  served-1 = record { takes = refl; has = refl; fits = refl; reads = refl };
-  served-jump = record { takes = refl; has = refl; fits = refl; reads = refl };
-  served-nop = record { takes = refl; has = refl; fits = refl; reads = refl };
-  served-at-stop = record { takes = refl; has = refl; fits = refl; reads = refl };
-  served-below = record { takes = refl; has = refl; fits = refl; reads = refl };
-  served-2 = record { takes = refl; has = refl; fits = refl; reads = refl };
-  served-3 = record { takes = refl; has = refl; fits = refl; reads = refl };
+  served-input = refl;
+  served-unset = refl;
+  served-0 = refl;
+  served-1 = refl;
+  served-jump = refl;
+  served-nop = refl;
+  served-at-stop = refl;
+  served-below = refl;
+  served-2 = refl;
+  served-3 = refl;
   copies = (_, refl);
   input-refused = refl;
   traces-part = λ same. different 0x13 0x8067 (ap (λ (s : PredicateControlStep). s .«instruction_word») (sym (same .1 .0))) (omega arith);
@@ -124,16 +124,16 @@ at-invalid = record {
 pub at-twelve : Computed twelveChannels
 unfolding runs
 at-twelve = record {
-  served-input = record { takes = refl; has = refl; fits = refl; reads = refl };
-  served-unset = record { takes = refl; has = refl; fits = refl; reads = refl };
-  served-0 = record { takes = refl; has = refl; fits = refl; reads = refl };
-  served-1 = record { takes = refl; has = refl; fits = refl; reads = refl };
-  served-jump = record { takes = refl; has = refl; fits = refl; reads = refl };
-  served-nop = record { takes = refl; has = refl; fits = refl; reads = refl };
-  served-at-stop = record { takes = refl; has = refl; fits = refl; reads = refl };
-  served-below = record { takes = refl; has = refl; fits = refl; reads = refl };
-  served-2 = record { takes = refl; has = refl; fits = refl; reads = refl };
-  served-3 = record { takes = refl; has = refl; fits = refl; reads = refl };
+  served-input = refl;
+  served-unset = refl;
+  served-0 = refl;
+  served-1 = refl;
+  served-jump = refl;
+  served-nop = refl;
+  served-at-stop = refl;
+  served-below = refl;
+  served-2 = refl;
+  served-3 = refl;
   copies = (_, refl);
   input-refused = refl;
   traces-part = λ same. different 0x13 0x8067 (ap (λ (s : PredicateControlStep). s .«instruction_word») (sym (same .1 .0))) (omega arith);
@@ -156,15 +156,15 @@ at-twelve = record {
 -- 11. what the two ranges return
 record Returned (range : InputRange) (value : ℕ) : Type 0 where
   served : Served (isBelow12 range)
-  is : returned (some (recordAt (isBelow12 range))) ≡ value
+  is : returned (recordAt (isBelow12 range)) ≡ value
 
 below-12 : Returned twelveChannels 1
 unfolding runs
-below-12 = record { served = record { takes = refl; has = refl; fits = refl; reads = refl }; is = refl }
+below-12 = record { served = refl; is = refl }
 
 not-below-12 : Returned invalidOfTwelve 0
 unfolding runs
-not-below-12 = record { served = record { takes = refl; has = refl; fits = refl; reads = refl }; is = refl }
+not-below-12 = record { served = refl; is = refl }
 
 -- ---- the table, from that
 
@@ -227,7 +227,7 @@ module _ (Output : Type 0) (seen : Output → Observed) (Meets : Input → Outpu
   range-ignored : Breaks Output seen Meets IgnoresRange (isBelow12 twelveChannels ∷ isBelow12 invalidOfTwelve ∷ [])
   range-ignored p b m n = different 0 1
       (sym (not-below-12 .is) ∙ sym (ap returned (right (isBelow12 invalidOfTwelve) (not-below-12 .served) _ n .recorded))
-      ∙ sym (b (isBelow12 twelveChannels) (isBelow12 invalidOfTwelve) refl (refl, refl, refl))
+      ∙ sym (b (isBelow12 twelveChannels) (isBelow12 invalidOfTwelve) refl refl (refl, refl, refl))
       ∙ ap returned (right (isBelow12 twelveChannels) (below-12 .served) _ m .recorded) ∙ below-12 .is)
       (omega arith)
 

@@ -12,15 +12,17 @@ use Rattle.lane_word.specs.Range.{inputCount}
 use Rattle.predicate_trace.specs.declared.PredicateControlStep.{PredicateControlStep}
 use Rattle.predicate_answer.specs.declared.CompiledMmioEvent.{CompiledMmioEvent}
 use Rattle.predicate_answer.specs.declared.PredicateTransducerExecution.{PredicateTransducerExecution}
+use Rattle.predicate_answer.specs.declared.CallVerdict.the-variants as verdict
+use Rattle.predicate_answer.specs.Blank.{noExecution}
 use Rattle.predicate_semantics.specs.State.{Result}
 use Rattle.predicate_semantics.specs.Tested.{passed}
 use Rattle.predicate_semantics.specs.Lane.{Ended, laneRun}
-use Rattle.predicate_semantics.specs.Standing.{standing, standingScalarRun}
-use Rattle.predicate_answer.specs.Blank.{noExecution}
+use Rattle.predicate_semantics.specs.Standing.{scalarAnswer}
+use Rattle.predicate_semantics.specs.Call.{programIn}
 use Rattle.lane_memory.specs.LentRows.{rowCount}
 use Rattle.lane_record.specs.Format.{Record, accepted, refused}
 use Rattle.predicate_trace.specs.Trace.{entryCount}
-use Rattle.wrong_programs.specs.Inputs.{Input, imageOf, symbolsOf}
+use Rattle.wrong_programs.specs.Inputs.{Input, callAt}
 
 -- what is seen of a program at an input: the record, if there is one, and the lent rows and trace afterwards
 pub record Observed : Type 0 where
@@ -71,20 +73,20 @@ noSpaceAtOnce (some (refused f)) = (eqb (f .number) 13 || eqb (f .number) 14) &&
 -- the lane run whose lanes all hold the first input
 abbrev pub copied : Input → Ended
 copied x =
-    laneRun (standing (imageOf x) (symbolsOf x))
-    (record { inputs = replicate (inputCount (x .range)) (x .range .first); choice = passed tt; rows = rowCount (x .rows); entries = entryCount (x .trace) }) maxSteps
+    laneRun (programIn (callAt x))
+    (record { inputs = replicate (inputCount (x .range)) (x .range .first); choice = verdict.Passed; rows = rowCount (x .rows); entries = entryCount (x .trace) }) maxSteps
 
 -- the bytes at the entry, as many as an instruction can have
 abbrev pub firstInstruction : Input → List ℕ
-firstInstruction x = take 4 (drop ((symbolsOf x) .entry - imageBase) (imageOf x))
+firstInstruction x = take 4 (drop (x .program .symbols .entry - imageBase) (x .image))
 
 -- the same lent memory
 abbrev pub LentAlike : Input → Input → Type 0
 LentAlike x y = (x .rows ≡ y .rows) × (x .trace ≡ y .trace) × (x .output ≡ y .output)
 
--- the same symbols and range, as long an image, and the same lent memory
+-- the same program and range, as long an image, and the same lent memory
 abbrev pub Alike : Input → Input → Type 0
-Alike x y = (symbolsOf x ≡ symbolsOf y) × (x .range ≡ y .range) × (length (x .bytes) ≡ length (y .bytes)) × LentAlike x y
+Alike x y = (x .program ≡ y .program) × (x .range ≡ y .range) × (length (x .image) ≡ length (y .image)) × LentAlike x y
 
 module _ (program : Input → Observed) where
   -- it accepts there
@@ -147,7 +149,7 @@ module _ (program : Input → Observed) where
   abbrev pub TakesUnsetAsZero : Type 0
   TakesUnsetAsZero =
       (x : Input) (r : Result)
-      → ((i : ℕ) → x .range .first ≤ i → i ≤ x .range .last → standingScalarRun (imageOf x) (symbolsOf x) i (λ _. 0) ≡ some r) → AcceptsAt x
+      → ((i : ℕ) → x .range .first ≤ i → i ≤ x .range .last → scalarAnswer (x .image) (x .program) i (λ _. 0) ≡ some r) → AcceptsAt x
 
   -- 10. the lent rows stay as they were
   abbrev pub LeavesRows : Type 0
@@ -156,7 +158,7 @@ module _ (program : Input → Observed) where
   -- 11. the range is not looked at: what differs in it alone has the same return value
   abbrev pub IgnoresRange : Type 0
   IgnoresRange =
-      (x y : Input) → x .bytes ≡ y .bytes → LentAlike x y
+      (x y : Input) → x .image ≡ y .image → x .program ≡ y .program → LentAlike x y
       → (numbers ((program x) .recorded)) .«return_value» ≡ (numbers ((program y) .recorded)) .«return_value»
 
 -- some program behaves so

@@ -5,37 +5,31 @@ use lib.ListN.{replicate}
 use Rattle.little_endian.specs.Number.{bytes}
 use Rattle.riscv32imc.specs.Constants.{imageBase}
 use Rattle.lane_word.specs.declared.InputRange.{InputRange}
+use Rattle.predicate_semantics.specs.declared.Rv32Program.{Rv32Program}
 use Rattle.predicate_semantics.specs.declared.Rv32SymbolLayout.{Rv32SymbolLayout}
-use Rattle.predicate_semantics.specs.Lane.{Ended}
+use Rattle.predicate_semantics.specs.Call.{Call}
 use Rattle.predicate_semantics.specs.Cases.{symbols, word, half, return1}
 use Rattle.predicate_trace.specs.Trace.{entryBytes}
 use Rattle.lane_memory.specs.LentRows.{rowBytes}
-use Rattle.riscv32imc_predicate.specs.Outcome.{runOver}
-use Rattle.lane_library.specs.Inputs.{symbolsIn, imageIn}
+use Rattle.riscv32imc_predicate.specs.Outcome.{callOver}
+use Rattle.lane_library.specs.Inputs.{inputProgram, imageIn}
 
 -- Record: the input of the program lane-run, the three symbols and the image after them
 abbrev pub inputBytes : Rv32SymbolLayout → List ℕ → List ℕ
 inputBytes s image = bytes 4 (s .entry) ++ bytes 4 (s .«event_count») ++ bytes 4 (s .events) ++ image
 
--- what a program is given: the bytes of symbols and image, the range of inputs, and what is lent; the run itself takes no output
+-- what a program is given: what its caller chooses, and what is lent; the run itself takes no output
 pub record Input : Type 0 where
-  pub bytes : List ℕ
+  pub image : List ℕ
+  pub program : Rv32Program
   pub range : InputRange
   pub rows : List ℕ
   pub trace : List ℕ
   pub output : List ℕ
 
--- its symbols
-abbrev pub symbolsOf : Input → Rv32SymbolLayout
-symbolsOf x = symbolsIn (x .bytes)
-
--- its image
-abbrev pub imageOf : Input → List ℕ
-imageOf x = imageIn (x .bytes)
-
--- the run by the definition
-abbrev pub runAt : Input → Ended
-runAt x = runOver (imageOf x) (symbolsOf x) (x .range) (x .rows) (x .trace)
+-- the call that it is
+abbrev pub callAt : Input → Call
+callAt x = callOver (x .image) (x .program) (x .range) (x .rows) (x .trace)
 
 -- the bytes that name a channel of twelve: 0 to 5, which no invalid channel is, are among them
 abbrev pub twelveChannels : InputRange
@@ -49,11 +43,12 @@ invalidOfTwelve = record { first = 12; last = 255 }
 abbrev pub lentByte : ℕ
 lentByte = 7
 
--- an image at the example's symbols over a range, with so many rows and entries and enough output lent
+-- an image at the example's symbols, as they are taken from an input's bytes, over a range, with so many rows and entries and enough output lent
 abbrev pub lending : List ℕ → ℕ → ℕ → InputRange → Input
 lending image rows entries range =
     record {
-      bytes = inputBytes (symbols imageBase) image;
+      image = imageIn (inputBytes (symbols imageBase) image);
+      program = inputProgram (inputBytes (symbols imageBase) image);
       range = range;
       rows = replicate (rows * rowBytes) lentByte;
       trace = replicate (entries * entryBytes) 0;

@@ -1,34 +1,40 @@
--- The table of wrong programs (document 01, Conditions of acceptance), each with the inputs at which it breaks the contract: the run's, the library's three,
+-- The table of wrong programs (document 01, Conditions of acceptance), each with the inputs at which it breaks the contract: the run's, the library's,
 -- and the promises alone, over the invalid channels and over another range.
 use mathlib.Core.Path.{_≡_}
-use mathlib.Core.Bool.{false}
+use mathlib.Core.Bool.{false, _||_}
 use mathlib.Core.List.{List, [], _∷_}
 use mathlib.Core.Option.{Option, none, some}
 use Prim.Native.Nat.{ℕ, _≤_}
+use lib.Dec.{eqb}
 use lib.ListN.{take}
 use Rattle.little_endian.specs.Number.{AllBytes}
 use Rattle.lane_word.specs.declared.InputRange.{InputRange}
 use Rattle.lane_word.specs.Range.{invalidChannels}
+use Rattle.predicate_answer.specs.declared.CallVerdict.{CallVerdict}
+use Rattle.predicate_answer.specs.declared.CallVerdict.the-variants as verdict
+use Rattle.predicate_answer.specs.declared.CompiledMmioEvent.{CompiledMmioEvent}
 use Rattle.predicate_answer.specs.declared.PredicateTransducerExecution.{PredicateTransducerExecution}
-use Rattle.predicate_semantics.specs.State.{Result}
-use Rattle.predicate_semantics.specs.Tested.{Tested, passed}
+use Rattle.predicate_answer.specs.declared.RecordAnswer.{RecordAnswer}
+use Rattle.predicate_answer.specs.declared.RecordAnswer.the-variants as answer
+use Rattle.predicate_answer.specs.Refusal.{Refusal, numberOf}
+use Rattle.predicate_semantics.specs.State.{resultRead}
 use Rattle.predicate_semantics.specs.Tested as Tested
-use Rattle.predicate_semantics.specs.Standing.{standingScalarRun}
-use Rattle.lane_record.specs.declared.WriteAnswer.{WriteAnswer}
-use Rattle.lane_record.specs.Format.{Record, accepted, refused}
+use Rattle.predicate_semantics.specs.Standing.{scalarAnswer}
+use Rattle.predicate_semantics.specs.Call.{runOf}
+use Rattle.lane_record.specs.Format.{Record, refused}
 use Rattle.lane_record.specs.Decode.{decodeRecord}
-use Rattle.lane_record.specs.Answers.{Said, done, wrote, refuses, writeSaid}
+use Rattle.lane_record.specs.Answers.{Said, done, wrote, refuses, acceptedGiven}
 use Rattle.riscv32imc_predicate.specs.declared.PredicateRun.{PredicateRun}
-use Rattle.riscv32imc_predicate.specs.Outcome.{resultIn, Ran}
+use Rattle.riscv32imc_predicate.specs.Outcome.{Ran}
 use Rattle.lane_library.specs.declared.RunAnswer.{RunAnswer}
 use Rattle.lane_library.specs.Promise.{Promise}
-use Rattle.lane_library.specs.Outcome.{lent, ranSaid, LaneRuns, ImageRuns, RangeRuns}
-use Rattle.wrong_programs.specs.Inputs.{Input, imageOf, symbolsOf, runAt, twelveChannels, invalidOfTwelve, returnsInput, returnsUnset, returns1, returns0, jumpFirst, nopFirst, storesAtStop, storesBelow, raises2, raises3, isBelow12}
+use Rattle.lane_library.specs.Outcome.{lent, ranSaid, Runs}
+use Rattle.wrong_programs.specs.Inputs.{Input, callAt, twelveChannels, invalidOfTwelve, returnsInput, returnsUnset, returns1, returns0, jumpFirst, nopFirst, storesAtStop, storesBelow, raises2, raises3, isBelow12}
 use Rattle.wrong_programs.specs.Behaviours.{Observed, noSpaceAtOnce, AcceptsAt, NamesRange, CopiesFirstInput, InventsLaterTrace, InventsWrittenBytes, RefusesWithSpaceLeft, NeverChanges, RefusesEachImage, LeavesEmpty, InventsEvents, TakesUnsetAsZero, LeavesRows, IgnoresRange}
 
--- the lent rows and entries suffice for the run
+-- the lent rows and entries suffice for the run: it is refused neither with 13 nor with 14
 abbrev pub Suffices : Input → Type 0
-Suffices x = (r : Result) × ((runAt x) .answer ≡ passed r)
+Suffices x = (r : Refusal) → runOf (callAt x) .answer ≡ Tested.refused r → (eqb (numberOf r) 13 || eqb (numberOf r) 14) ≡ false
 
 -- over what a program answers and leaves, what is seen of that, and the contract
 module _ (Output : Type 0) (seen : Output → Observed) (Meets : Input → Output → Type 0) where
@@ -95,20 +101,21 @@ pub record RunOutput : Type 0 where
   pub rows : List ℕ
   pub trace : List ℕ
 
--- the record of a result or a refusal, with the numbers and the completed steps beside it
-abbrev pub recordOf : PredicateTransducerExecution → ℕ → Tested Result → Record
-recordOf e n (passed r) = accepted e (r .events) (r .trace)
-recordOf e n (Tested.refused q) = refused (record { number = q .number; role = q .role; steps = n })
+-- the record that an answer, numbers and events are, with the trace beside them; none of a refused call
+abbrev pub recordBy : CallVerdict → RecordAnswer → PredicateTransducerExecution → List CompiledMmioEvent → List ℕ → Option Record
+recordBy verdict.Passed answer.Accepted e es t = some (acceptedGiven e es t)
+recordBy verdict.Passed (answer.Refused f) e es t = some (refused f)
+recordBy (verdict.Refused x) a e es t = none
 
 abbrev pub seenOfRun : RunOutput → Observed
 seenOfRun o = record {
-  recorded = some (recordOf (o .run .execution) (o .run .steps) (resultIn (o .run) (o .trace)));
+  recorded = recordBy (o .run .verdict) (o .run .outcome .answer) (o .run .outcome .execution) (o .run .outcome .events) (o .trace);
   rows = o .rows;
   trace = o .trace;
 }
 
 abbrev pub RunMeets : Input → RunOutput → Type 0
-RunMeets x o = Ran (imageOf x) (symbolsOf x) (x .range) (x .rows) (x .trace) (o .run) (o .rows) (o .trace)
+RunMeets x o = Ran (x .image) (x .program) (x .range) (x .rows) (x .trace) (o .run) (o .rows) (o .trace)
 
 abbrev pub RunRefuted : Type 0
 RunRefuted = RefutedOverRanges RunOutput seenOfRun RunMeets
@@ -116,16 +123,16 @@ RunRefuted = RefutedOverRanges RunOutput seenOfRun RunMeets
 -- its promise
 abbrev pub RunPromises : Input → RunOutput → Type 0
 RunPromises x o =
-    (result : Result) → resultIn (o .run) (o .trace) ≡ passed result
+    o .run .outcome .answer ≡ answer.Accepted
     → (input : ℕ) → x .range .first ≤ input → input ≤ x .range .last
-    → (others : ℕ → ℕ) → standingScalarRun (imageOf x) (symbolsOf x) input others ≡ some result
+    → (others : ℕ → ℕ) → scalarAnswer (x .image) (x .program) input others ≡ some (resultRead (o .run .outcome) (o .trace))
 
 pub record RunPromiseRefuted : Type 0 where
   pub promised : (x : Input) (o : RunOutput) → RunMeets x o → RunPromises x o
   pub invalid-channels : PromiseRefuted RunOutput seenOfRun RunPromises (λ p. Unit {0}) invalidChannels
   pub twelve-channels : PromiseRefuted RunOutput seenOfRun RunPromises (λ p. Unit {0}) twelveChannels
 
--- ---- the library's three
+-- ---- the library
 
 -- the record that the written bytes are
 abbrev pub written : Said → List ℕ → Option Record
@@ -133,46 +140,29 @@ written (wrote n) output = decodeRecord (take n output)
 written done output = none
 written (refuses n) output = none
 
--- what a function of the library answers, and the lent memory after it; `said` gives an answer by its number
-pub record LibraryOutput (Answer : Type 0) : Type 0 where
-  pub answer : Answer
+-- what a function of the library answers, and the lent memory after it
+pub record LibraryOutput : Type 0 where
+  pub answer : RunAnswer
   pub rows : List ℕ
   pub trace : List ℕ
   pub output : List ℕ
 
-module _ (Answer : Type 0) (said : Answer → Said) where
-  abbrev pub seenOf : LibraryOutput Answer → Observed
-  seenOf o = record { recorded = written (said (o .answer)) (o .output); rows = o .rows; trace = o .trace }
+abbrev pub seenOf : LibraryOutput → Observed
+seenOf o = record { recorded = written (ranSaid (o .answer)) (o .output); rows = o .rows; trace = o .trace }
 
-  -- the promise over the bytes that it leaves
-  abbrev pub BytesPromise : Input → LibraryOutput Answer → Type 0
-  BytesPromise x o = AllBytes (o .output) × Promise (imageOf x) (symbolsOf x) (said (o .answer)) (o .output)
+-- the contract of `run_with`, and of the other functions that run, at other arguments: of `run_input` at the image and program of its bytes and the invalid channels
+abbrev pub LibraryMeets : Input → LibraryOutput → Type 0
+LibraryMeets x o = Runs (x .image) (x .program) (x .range) (lent (x .rows) (x .trace) (x .output)) (o .answer) (lent (o .rows) (o .trace) (o .output))
 
-  -- it holds of what meets the contract, and the wrong programs break it
-  pub record BytesRefuted (Meets : Input → LibraryOutput Answer → Type 0) : Type 0 where
-    pub promised : (x : Input) (o : LibraryOutput Answer) → Meets x o → Promise (imageOf x) (symbolsOf x) (said (o .answer)) (o .output)
-    pub invalid-channels : PromiseRefuted (LibraryOutput Answer) seenOf BytesPromise NamesRange invalidChannels
-    pub twelve-channels : PromiseRefuted (LibraryOutput Answer) seenOf BytesPromise NamesRange twelveChannels
+-- the promise over the bytes that it leaves
+abbrev pub BytesPromise : Input → LibraryOutput → Type 0
+BytesPromise x o = AllBytes (o .output) × Promise (x .image) (x .program) (ranSaid (o .answer)) (o .output)
 
--- `run_input`, which is for the invalid channels
-abbrev pub InputMeets : Input → LibraryOutput WriteAnswer → Type 0
-InputMeets x o =
-    (x .range ≡ invalidChannels)
-    × LaneRuns (x .bytes) (lent (x .rows) (x .trace) (x .output)) (o .answer) (lent (o .rows) (o .trace) (o .output))
+-- it holds of what meets the contract, and the wrong programs break it
+pub record BytesRefuted : Type 0 where
+  pub promised : (x : Input) (o : LibraryOutput) → LibraryMeets x o → Promise (x .image) (x .program) (ranSaid (o .answer)) (o .output)
+  pub invalid-channels : PromiseRefuted LibraryOutput seenOf BytesPromise NamesRange invalidChannels
+  pub twelve-channels : PromiseRefuted LibraryOutput seenOf BytesPromise NamesRange twelveChannels
 
-abbrev pub InputRefuted : Type 0
-InputRefuted = Refuted (LibraryOutput WriteAnswer) (seenOf WriteAnswer writeSaid) InputMeets invalidChannels × BytesRefuted WriteAnswer writeSaid InputMeets
-
--- `run_image`, whose contract speaks of any range
-abbrev pub ImageMeets : Input → LibraryOutput WriteAnswer → Type 0
-ImageMeets x o = ImageRuns (imageOf x) (symbolsOf x) (x .range) (lent (x .rows) (x .trace) (x .output)) (o .answer) (lent (o .rows) (o .trace) (o .output))
-
-abbrev pub ImageRefuted : Type 0
-ImageRefuted = RefutedOverRanges (LibraryOutput WriteAnswer) (seenOf WriteAnswer writeSaid) ImageMeets × BytesRefuted WriteAnswer writeSaid ImageMeets
-
--- `run_range`
-abbrev pub RangeMeets : Input → LibraryOutput RunAnswer → Type 0
-RangeMeets x o = RangeRuns (imageOf x) (symbolsOf x) (x .range) (lent (x .rows) (x .trace) (x .output)) (o .answer) (lent (o .rows) (o .trace) (o .output))
-
-abbrev pub RangeRefuted : Type 0
-RangeRefuted = RefutedOverRanges (LibraryOutput RunAnswer) (seenOf RunAnswer ranSaid) RangeMeets × BytesRefuted RunAnswer ranSaid RangeMeets
+abbrev pub LibraryRefuted : Type 0
+LibraryRefuted = RefutedOverRanges LibraryOutput seenOf LibraryMeets × BytesRefuted

@@ -2,12 +2,12 @@ use mathlib.Core.Path.{sym, _∙_}
 use borrow.Author.Needs.{needs}
 use Rattle.predicate_semantics.specs.Tested.{_>>=_, refuse, found}
 use Rattle.predicate_semantics.specs.Lane.{decodeWord}
-use Rattle.predicate_semantics.specs.Standing.{decodedOperation}
+use Rattle.predicate_semantics.specs.Standing.{decodedOperation, standingCore}
 use Rattle.lane_access.proofs.decoded.Statement.{statement}
 use Rattle.lane_access.proofs.decoded.Tie as tie
 
 pub decoded-spec : {M : Type 1} → statement M
-unfolding decodeWord decodedOperation found refuse _>>=_
+unfolding standingCore decodeWord decodedOperation found refuse _>>=_
 decoded-spec =
     tie.close
     (tie.spec

@@ -2,12 +2,12 @@ use mathlib.Core.Path.{sym, _∙_}
 use borrow.Author.Needs.{needs}
 use Rattle.predicate_semantics.specs.Tested.{_>>=_, refuse, found}
 use Rattle.predicate_semantics.specs.Lane.{expandHalfword}
-use Rattle.predicate_semantics.specs.Standing.{expandedWord}
+use Rattle.predicate_semantics.specs.Standing.{expandedWord, standingCore}
 use Rattle.lane_access.proofs.expanded.Statement.{statement}
 use Rattle.lane_access.proofs.expanded.Tie as tie
 
 pub expanded-spec : {M : Type 1} → statement M
-unfolding expandHalfword expandedWord found refuse _>>=_
+unfolding standingCore expandHalfword expandedWord found refuse _>>=_
 expanded-spec =
     tie.close
     (tie.spec

@@ -30,6 +30,6 @@ execute-predicate-spec =
     (λ c.
     let b = unmarked-first c in
     let a = b .before .before .before .before .before .args in
-    ran (now (a .image)) (a .symbols) (a .range) (now (a .rows)) (now (a .trace)) (b .unmark .ensures)
-    (ran-of c .run .ensures _ (calls (now (a .image)) (a .symbols) (a .range) (now (a .rows)) (now (a .trace)) (omega arith) (b .unmark .ensures)))
+    ran (now (a .image)) (a .program) (a .range) (now (a .rows)) (now (a .trace)) (b .unmark .ensures)
+    (ran-of c .run .ensures _ (calls (now (a .image)) (a .program) (a .range) (now (a .rows)) (now (a .trace)) (omega arith) (b .unmark .ensures)))
     (cleared-last c .clear .ensures)))

@@ -12,7 +12,7 @@ outcome-from-spec =
     (λ c κs. search needs)
     (λ c.
     let f = c .before .before in
-    rw (c .refused-outcome .ensures, sym (f .formed .ensures) ∙ not-true (f .formed .result) (c .before .if1 .taken)))
+    rw (c .no-outcome .ensures, sym (f .formed .ensures) ∙ not-true (f .formed .result) (c .before .if1 .taken)))
     (λ c κs. let f = c .before in sym (f .formed .ensures) ∙ not-false (f .formed .result) (c .if1 .left))
     (λ c κs. let f = c .before .before in sym (f .formed .ensures) ∙ not-false (f .formed .result) (c .before .if1 .left))
     (λ c κs. search needs)

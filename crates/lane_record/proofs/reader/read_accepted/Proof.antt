@@ -8,7 +8,7 @@ use denote.Ref.{now}
 use borrow.Author.Needs.{needs}
 use borrow.Author.Tests.{leb-true, not-true, not-false}
 use Rattle.predicate_answer.specs.declared.PredicateTransducerExecution.{PredicateTransducerExecution}
-use Rattle.lane_record.specs.declared.RecordAnswer.the-variants as answer
+use Rattle.predicate_answer.specs.declared.RecordAnswer.the-variants as answer
 use Rattle.lane_record.specs.declared.ReadAnswer.the-variants as read
 use Rattle.lane_record.specs.declared.RecordReading.{RecordReading}
 use Rattle.predicate_trace.specs.Trace.{entryBytes}

@@ -7,5 +7,4 @@ refused-reading-spec =
     tie.close
     (tie.spec
     (λ c κs. search needs)
-    (λ c κs. search needs)
-    (λ c. rw (c .before .no-execution .ensures, c .no-events .ensures)))
+    (λ c. rw (c .refused-outcome .ensures)))

@@ -8,4 +8,4 @@ refused-spec =
     (tie.spec
     (λ c κs. search needs)
     (λ c κs. search needs)
-    (λ c. rw (c .before .no-execution .ensures, c .no-events .ensures)))
+    (λ c. rw (c .refused-outcome .ensures, c .before .after .ensures)))

@@ -4,21 +4,21 @@ use Prim.Native.Nat.{ℕ}
 use lib.ListN.{length}
 use denote.Ref.{now}
 use borrow.Author.Needs.{needs}
-use Rattle.predicate_answer.specs.Refusal.{refusalOf}
-use Rattle.predicate_semantics.specs.Tested.{Tested, passed}
-use Rattle.predicate_semantics.specs.StandingLanes.{rangeTest}
+use Rattle.predicate_answer.specs.declared.CallVerdict.{CallVerdict}
+use Rattle.predicate_answer.specs.Refusal.{refusalOf, ofCall}
+use Rattle.predicate_semantics.specs.Tested.{passed}
+use Rattle.predicate_semantics.specs.Call.{rangeTest}
 use Rattle.lane_word.specs.declared.LaneWord.{LaneWord}
 use Rattle.predicate_semantics.specs.Lane.{begin, startTests}
 use Rattle.predicate_semantics.specs.Program.{stop, stopWord}
 use Rattle.predicate_trace.specs.Trace.{putEntries}
 use Rattle.lane_memory.specs.Rows.{rowCount, cleared}
 use Rattle.lane_memory.proofs.Laws.{cleared-store-value}
-use Rattle.lane_access.specs.Answers.{verdictOf}
 use Rattle.riscv32imc_predicate.specs.declared.Bounds.{Bounds}
 use Rattle.riscv32imc_predicate.specs.Setting.{Setting, environment, firstState}
 use Rattle.riscv32imc_predicate.specs.Tracking.{Machine, machine, Stands, Arrives}
 use Rattle.riscv32imc_predicate.specs.Register.{StartsWith}
-use Rattle.riscv32imc_predicate.specs.Reporting.{Calls}
+use Rattle.riscv32imc_predicate.specs.Reporting.{startedOf, Calls}
 use Rattle.riscv32imc_predicate.proofs.Following.{sees}
 use Rattle.riscv32imc_predicate.proofs.Running.{run-refused-first, reports-refused, loopEnvironment, begin-stands, runs-as, ended-refused, ended-arrived, never-paused, counts, events-low}
 use Rattle.riscv32imc_predicate.proofs.outcome.run.Statement.{statement}
@@ -27,19 +27,19 @@ use Rattle.riscv32imc_predicate.proofs.outcome.run.Tie as tie
 -- a setting that the call is one of
 abbrev CallsAt : tie.Start → Setting → Type 0
 CallsAt s x =
-    Calls x (now (s .args .image)) (s .args .symbols) (s .args .range) (s .args .limit) (now (s .args .rows)) (now (s .args .trace))
+    Calls x (now (s .args .image)) (s .args .program) (s .args .range) (s .args .limit) (now (s .args .rows)) (now (s .args .trace))
 
 abbrev begun : tie.After-start-test → tie.Start
-begun t = t .before .before .before .before .before .before .before
+begun t = t .before .before .before .before .before .before .before .before
 
 -- the tests before any step are made of what the call is given
 first-tests : (t : tie.After-start-test)
-    → startTests (length (now (begun t .args .image))) (begun t .args .symbols) (rangeTest (begun t .args .range)) (rowCount (now (begun t .args .rows)))
-    ≡ verdictOf (t .start-test .result)
+    → startTests (length (now (begun t .args .image))) (begun t .args .program .symbols) (rangeTest (begun t .args .range)) (rowCount (now (begun t .args .rows)))
+    ≡ startedOf (t .start-test .result)
 first-tests t =
     let a = begun t .args in
-    ap (startTests (length (now (a .image))) (a .symbols) (rangeTest (a .range))) (sym (t .before .row-count .ensures))
-    ∙ ap (λ (choice : Tested (Unit {0})). startTests (length (now (a .image))) (a .symbols) choice (t .before .row-count .result)) (sym (t .before .before .before .range-test .ensures))
+    ap (startTests (length (now (a .image))) (a .program .symbols) (rangeTest (a .range))) (sym (t .before .row-count .ensures))
+    ∙ ap (λ (choice : CallVerdict). startTests (length (now (a .image))) (a .program .symbols) choice (t .before .row-count .result)) (sym (t .before .before .before .range-test .ensures))
     ∙ sym (t .start-test .ensures)
 
 -- the tests before any step passed
@@ -50,8 +50,8 @@ module _ (c : tie.After-enum-told) where
   abbrev start : tie.Start
   start = begun tested
 
-  passes : startTests (length (now (start .args .image))) (start .args .symbols) (rangeTest (start .args .range)) (rowCount (now (start .args .rows))) ≡ passed tt
-  passes = first-tests tested ∙ ap verdictOf (c .enum-told .given .1)
+  passes : startTests (length (now (start .args .image))) (start .args .program .symbols) (rangeTest (start .args .range)) (rowCount (now (start .args .rows))) ≡ passed tt
+  passes = first-tests tested ∙ ap startedOf (c .enum-told .given .1)
 
 -- the loop has ended
 module _ (k : tie.After-advance) where
@@ -80,9 +80,9 @@ module _ (k : tie.After-advance) where
   reaches : (x : Setting) (s : CallsAt (start told) x) → Arrives x (loopEnvironment s) (firstState x) (k .advance .result) rows′ (k .advance .last .1 .1 .1 .1 .1 .1 .0)
   reaches x s =
       let a = start told .args in
-      subst (λ (b : Bounds). Arrives x (environment (now (a .image)) (a .symbols) b) (firstState x) (k .advance .result) rows′ (k .advance .last .1 .1 .1 .1 .1 .1 .0)) (placed .before .before .whole-run .ensures)
+      subst (λ (b : Bounds). Arrives x (environment (now (a .image)) (a .program .symbols) b) (firstState x) (k .advance .result) rows′ (k .advance .last .1 .1 .1 .1 .1 .1 .0)) (placed .before .before .whole-run .ensures)
       (k .advance .ensures .0 x (firstState x)
-      (subst (λ (b : Bounds). Stands x (environment (now (a .image)) (a .symbols) b) first (firstState x)) (sym (placed .before .before .whole-run .ensures))
+      (subst (λ (b : Bounds). Stands x (environment (now (a .image)) (a .program .symbols) b) first (firstState x)) (sym (placed .before .before .whole-run .ensures))
       (begin-stands s (passes told) (start told .pre) (stored .store-value .ensures) (placed .start-place .ensures)
       (subst (λ (w : LaneWord). StartsWith w (recorded .before .start-registers .result)) (recorded .before .before .input-domain .ensures) (recorded .before .start-registers .ensures))
       (recorded .start-recorded .ensures))))
@@ -107,13 +107,7 @@ run-spec =
     (λ c. search needs)
     (λ c κs. search needs)
     (λ c. search needs)
-    (λ c x k.
-    let q = c .before .before in
-    let t = q .before .before in
-    let e = q .started .given .0 .0 in
-    runs-as k
-    (run-refused-first k (refusalOf e) (first-tests t ∙ ap verdictOf (q .started .given .1)))
-    (reports-refused (begun t .args .range) (firstState x) _ e 0 refl refl (c .refused .ensures)) (sym (k .same-lent)) refl)
+    (λ c κs. search needs)
     (λ c. search needs)
     (λ c κs. search needs)
     (λ c κs. search needs)
@@ -131,8 +125,23 @@ run-spec =
     (λ c κs.
     let k = stopped c in
     let a = start (told k) .args in
-    events-low (length (now (a .image))) (a .symbols) (rangeTest (a .range)) (rowCount (now (a .rows))) (passes (told k)))
+    events-low (length (now (a .image))) (a .program .symbols) (rangeTest (a .range)) (rowCount (now (a .rows))) (passes (told k)))
     (λ c κs. search needs)
+    (λ c. search needs)
+    (λ c x k.
+    let q = c .before .before in
+    let t = q .before .before in
+    let e = q .started .given .0 .0 in
+    runs-as k
+    (run-refused-first k (refusalOf e) (first-tests t ∙ ap startedOf (q .started .given .1)))
+    (reports-refused (begun t .args .range) (firstState x) _ e 0 refl refl (c .refused .ensures)) (sym (k .same-lent)) refl)
+    (λ c. search needs)
+    (λ c x k.
+    let q = c .before .before in
+    let e = q .started2 .given .0 .0 in
+    runs-as k
+    (run-refused-first k (ofCall e) (first-tests (q .before .before) ∙ ap startedOf (q .started2 .given .1)))
+    (c .declined .ensures) (sym (k .same-lent)) refl)
     (λ c. let k = ended c in k .advance .kept .1 .1 .1 .1 .1 .0 ∙ stored k .store-value .kept .0)
     (λ c. ended c .advance .kept .1 .1 .1 .1 .1 .1 .0)
     (λ c x s.

@@ -1,11 +1,10 @@
 use borrow.Author.Tests.{le-leb, lt-leb}
-use Rattle.predicate_semantics.specs.Tested.{require, refuse}
-use Rattle.predicate_semantics.specs.StandingLanes.{rangeTest}
+use Rattle.predicate_semantics.specs.Call.{rangeTest}
 use Rattle.riscv32imc_predicate.proofs.start.range_test.Statement.{statement}
 use Rattle.riscv32imc_predicate.proofs.start.range_test.Tie as tie
 
 pub range-test-spec : {M : Type 1} → statement M
-unfolding rangeTest require refuse
+unfolding rangeTest
 range-test-spec =
     tie.close
     (tie.spec

@@ -2,14 +2,14 @@ use mathlib.Core.Path.{sym, _∙_}
 use borrow.Author.Needs.{needs}
 use borrow.Author.Tests.{le-leb, lt-leb}
 use Rattle.predicate_semantics.specs.Program.{sized}
-use Rattle.predicate_semantics.specs.Tested.{_>>=_, refuse, require}
+use Rattle.predicate_semantics.specs.Tested.{_>>=_, refuse, require, allow}
 use Rattle.predicate_semantics.specs.Lane.{startTests}
 use Rattle.riscv32imc_predicate.proofs.Running.{off, off-off, positive}
 use Rattle.riscv32imc_predicate.proofs.start.start_test.Statement.{statement}
 use Rattle.riscv32imc_predicate.proofs.start.start_test.Tie as tie
 
 pub start-test-spec : {M : Type 1} → statement M
-unfolding startTests sized _>>=_ refuse require
+unfolding startTests sized _>>=_ refuse require allow
 start-test-spec =
     tie.close
     (tie.spec

@@ -1,6 +1,6 @@
 use borrow.Author.Needs.{needs}
-use Rattle.lane_library.proofs.refused_outcome.Statement.{statement}
-use Rattle.lane_library.proofs.refused_outcome.Tie as tie
+use Rattle.predicate_answer.proofs.refused_outcome.Statement.{statement}
+use Rattle.predicate_answer.proofs.refused_outcome.Tie as tie
 
 pub refused-outcome-spec : {M : Type 1} → statement M
 refused-outcome-spec =

@@ -1,9 +1,9 @@
 use borrow.Author.Needs.{needs}
-use Rattle.lane_library.proofs.symbols_in.Statement.{statement}
-use Rattle.lane_library.proofs.symbols_in.Tie as tie
+use Rattle.lane_library.proofs.program_in.Statement.{statement}
+use Rattle.lane_library.proofs.program_in.Tie as tie
 
-pub symbols-in-spec : {M : Type 1} → statement M
-symbols-in-spec =
+pub program-in-spec : {M : Type 1} → statement M
+program-in-spec =
     tie.close
     (tie.spec
     (λ c κs. search needs)
