@@ -1,9 +1,9 @@
 /* The lane run and its record, for C. `tools/install PREFIX` puts this header and the library where `pkg-config lane` finds them.
 
    What is lent must not overlap, and each pointer must be valid for its length, even where that is 0 (then any non-null pointer serves).
-   The library keeps nothing between calls, allocates nothing and locks nothing: calls from several threads are independent, as long as
-   they are lent different memory. A call takes less than LANE_STACK_BYTES of stack: lane_run, lane_run_image and lane_run_range 74 to
-   78 KB, the other two under 4 KB (x86-64, examples/c/stack.c).
+   None may be NULL, those that stand in a struct included. The library keeps nothing between calls, allocates nothing and locks nothing:
+   calls from several threads are independent, as long as they are lent different memory. A call takes less than LANE_STACK_BYTES of stack:
+   lane_run_with, lane_run_image, lane_run_range and lane_run 74 to 78 KB, the other two under 4 KB (x86-64, examples/c/stack.c).
 
    docs/RECORD.md has the record's format and rules, docs/GUARANTEE.md what an accepted record promises. */
 #ifndef LANE_H
@@ -53,15 +53,15 @@ enum lane_role {
 };
 
 /* Limits. */
-#define LANE_FIRST_INPUT 6                     /* of lane_run, lane_run_image and the program lane-run */
+#define LANE_FIRST_INPUT 6                     /* of LANE_SETTING, lane_run_image, lane_run and the program lane-run */
 #define LANE_LAST_INPUT 255                    /* of the same */
-#define LANE_MAX_LANES 256                     /* of lane_run_range, from input 0 to 255 */
+#define LANE_MAX_LANES 256                     /* of lane_run_with and lane_run_range, from input 0 to 255 */
 #define LANE_MAX_STEPS 1000000
 #define LANE_MAX_EVENTS 32
 #define LANE_MEMORY_START UINT32_C(0x80000000)
 #define LANE_MEMORY_END UINT32_C(0x80200000)   /* the first address past it */
 #define LANE_STOP UINT32_C(0x801FFFFC)
-#define LANE_MAX_IMAGE_BYTES 1048576           /* of lane_run_image and lane_run_range */
+#define LANE_MAX_IMAGE_BYTES 1048576           /* of lane_run_with, lane_run_image and lane_run_range */
 #define LANE_MAX_INPUT_IMAGE_BYTES 32768       /* of lane_run and the program lane-run */
 #define LANE_SYMBOL_BYTES 12                   /* before the image in an input */
 #define LANE_MAX_INPUT_BYTES (LANE_SYMBOL_BYTES + LANE_MAX_INPUT_IMAGE_BYTES)
@@ -96,24 +96,62 @@ struct lane_outcome {
 
 typedef char lane_outcome_has_139_words[sizeof(struct lane_outcome) == 139 * sizeof(uint32_t) ? 1 : -1];
 
-/* Runs what the program lane-run reads, with LANE_FIRST_INPUT to LANE_LAST_INPUT in the lanes: entry, event count address, events address
-   (4 bytes each, little-endian), then the image, 1 to LANE_MAX_INPUT_IMAGE_BYTES. Anything else has the record of refusal 1.
-   0: *written bytes of the record are in output, and what lies past them is untouched. LANE_REFUSAL_OUTPUT: nothing is written there, and
-   *written is 0. In both cases the rows are zero afterwards, whatever they held before, and the entries of completed steps stand in the
-   trace, whose others are untouched. */
-uint32_t lane_run(const uint8_t *input, size_t input_len, uint8_t *rows, size_t rows_len, uint8_t *trace, size_t trace_len,
-                  uint8_t *output, size_t output_len, uint64_t *written);
+/* What is run: an image of 1 to LANE_MAX_IMAGE_BYTES, and the addresses of its entry, its event count and its events. */
+struct lane_firmware {
+    const uint8_t *image;
+    size_t image_len;
+    uint32_t entry, event_count, events;
+};
 
-/* The same of an image that stands by itself, of 1 to LANE_MAX_IMAGE_BYTES. */
+/* How it is run: with first_input to last_input in the lanes, from 1 to LANE_MAX_LANES of them. Begin with LANE_SETTING and change what is to
+   be another, so that what a later version adds has its default: struct lane_setting setting = LANE_SETTING; */
+struct lane_setting {
+    uint8_t first_input, last_input;
+};
+
+#define LANE_SETTING {LANE_FIRST_INPUT, LANE_LAST_INPUT}
+
+/* What a run is lent: rows, trace entries, and the output for its record. */
+struct lane_lent {
+    uint8_t *rows;
+    size_t rows_len;
+    uint8_t *trace;
+    size_t trace_len;
+    uint8_t *output;
+    size_t output_len;
+};
+
+/* lane_run_with, without structs: for callers in other languages. */
+uint32_t lane_run_with_plain(const uint8_t *image, size_t image_len, uint32_t entry, uint32_t event_count, uint32_t events,
+                             uint8_t first_input, uint8_t last_input, uint8_t *rows, size_t rows_len, uint8_t *trace, size_t trace_len,
+                             uint8_t *output, size_t output_len, uint64_t *written);
+
+/* Runs firmware, and writes the record of the run; that of an accepted one carries first_input and the number of lanes.
+   0: *written bytes of the record are in output, and what lies past them is untouched. LANE_REFUSAL_OUTPUT: output is too short.
+   LANE_REFUSAL_INPUT_RANGE: first_input is above last_input, and the run has neither refusal 1 nor 2. After these two nothing is written to
+   output, and *written is 0. In all cases the rows are zero afterwards, whatever they held before, and the entries of completed steps stand
+   in the trace, whose others are untouched; LANE_REFUSAL_INPUT_RANGE leaves all of them. */
+static inline uint32_t lane_run_with(const struct lane_firmware *firmware, const struct lane_setting *setting, const struct lane_lent *lent,
+                                     uint64_t *written)
+{
+    return lane_run_with_plain(firmware->image, firmware->image_len, firmware->entry, firmware->event_count, firmware->events,
+                               setting->first_input, setting->last_input, lent->rows, lent->rows_len, lent->trace, lent->trace_len,
+                               lent->output, lent->output_len, written);
+}
+
+/* lane_run_with at LANE_SETTING. */
 uint32_t lane_run_image(const uint8_t *image, size_t image_len, uint32_t entry, uint32_t event_count, uint32_t events, uint8_t *rows,
                         size_t rows_len, uint8_t *trace, size_t trace_len, uint8_t *output, size_t output_len, uint64_t *written);
 
-/* The same with first_input to last_input in the lanes, from 1 to LANE_MAX_LANES of them; the record carries first_input and their number.
-   Where first_input is above last_input, and the run has neither refusal 1 nor 2, LANE_REFUSAL_INPUT_RANGE: nothing is written to output,
-   *written is 0, the rows are zero, and the trace is untouched. */
+/* lane_run_with at LANE_SETTING but for its range of inputs. */
 uint32_t lane_run_range(const uint8_t *image, size_t image_len, uint32_t entry, uint32_t event_count, uint32_t events, uint8_t first_input,
                         uint8_t last_input, uint8_t *rows, size_t rows_len, uint8_t *trace, size_t trace_len, uint8_t *output,
                         size_t output_len, uint64_t *written);
+
+/* lane_run_with at LANE_SETTING, of what the program lane-run reads: entry, event count address, events address (4 bytes each,
+   little-endian), then the image, 1 to LANE_MAX_INPUT_IMAGE_BYTES. Anything else has the record of refusal 1. */
+uint32_t lane_run(const uint8_t *input, size_t input_len, uint8_t *rows, size_t rows_len, uint8_t *trace, size_t trace_len,
+                  uint8_t *output, size_t output_len, uint64_t *written);
 
 /* Reads a record, of any range of inputs: a loader compares first_input and lanes with its own. 0: *outcome is what it says, and the trace's
    first entries are its steps. LANE_REFUSAL_RULES: bytes are no record. LANE_REFUSAL_TRACE: the trace has fewer entries than the record has

@@ -44,12 +44,20 @@ static int read_byte(const char *word, uint8_t *byte)
     return *word < '0' || *word > '9' || *end != '\0' || number > 255;
 }
 
-/* Runs the input over a range of inputs. */
-static uint32_t run_range(size_t length, uint8_t first, uint8_t last, uint64_t *written)
+/* Runs the input's image with the setting. */
+static uint32_t run_with(size_t length, const struct lane_setting *setting, uint64_t *written)
 {
-    size_t image_length = length > LANE_SYMBOL_BYTES ? length - LANE_SYMBOL_BYTES : 0;
-    return lane_run_range(input + LANE_SYMBOL_BYTES, image_length, lane_word_at(input), lane_word_at(input + 4), lane_word_at(input + 8), first,
-                          last, rows, sizeof rows, trace, sizeof trace, record, sizeof record, written);
+    const struct lane_firmware firmware = {
+        .image = input + LANE_SYMBOL_BYTES,
+        .image_len = length > LANE_SYMBOL_BYTES ? length - LANE_SYMBOL_BYTES : 0,
+        .entry = lane_word_at(input),
+        .event_count = lane_word_at(input + 4),
+        .events = lane_word_at(input + 8),
+    };
+    const struct lane_lent lent = {
+        .rows = rows, .rows_len = sizeof rows, .trace = trace, .trace_len = sizeof trace, .output = record, .output_len = sizeof record,
+    };
+    return lane_run_with(&firmware, setting, &lent, written);
 }
 
 static void print_outcome(const struct lane_outcome *o)
@@ -99,16 +107,16 @@ static int show_record(uint64_t written)
 int main(int argc, char **argv)
 {
     size_t length = 0;
-    uint8_t first = LANE_FIRST_INPUT, last = LANE_LAST_INPUT;
-    if ((argc != 2 && argc != 4) || (argc == 4 && (read_byte(argv[2], &first) != 0 || read_byte(argv[3], &last) != 0)))
+    struct lane_setting setting = LANE_SETTING;
+    if ((argc != 2 && argc != 4) || (argc == 4 && (read_byte(argv[2], &setting.first_input) != 0 || read_byte(argv[3], &setting.last_input) != 0)))
         return failed("usage", "lane FILE [FIRST LAST], two inputs from 0 to 255");
     if (read_input(argv[1], &length) != 0)
         return failed(argv[1], "cannot be read");
 
     uint64_t written = 0;
-    uint32_t code = argc == 4 ? run_range(length, first, last, &written)
+    uint32_t code = argc == 4 ? run_with(length, &setting, &written)
                               : lane_run(input, length, rows, sizeof rows, trace, sizeof trace, record, sizeof record, &written);
     if (code != 0)
-        return failed(argc == 4 ? "lane_run_range" : "lane_run", lane_refusal_text(code));
+        return failed(argc == 4 ? "lane_run_with" : "lane_run", lane_refusal_text(code));
     return show_record(written);
 }

@@ -6,7 +6,7 @@
 #include <string.h>
 #include <ucontext.h>
 
-enum { ROWS = 1000, ENTRIES = 5000, PAINT = 0xA5, CALLS = 5 };
+enum { ROWS = 1000, ENTRIES = 5000, PAINT = 0xA5, CALLS = 6 };
 
 static uint8_t input[LANE_MAX_INPUT_BYTES + 1];
 static uint8_t rows[ROWS * LANE_ROW_BYTES];
@@ -19,6 +19,15 @@ static struct lane_outcome outcome;
 static ucontext_t here, there;
 
 static void run(void) { lane_run(input, length, rows, sizeof rows, trace, sizeof trace, record, sizeof record, &written); }
+
+static void run_with(void)
+{
+    struct lane_setting setting = LANE_SETTING;
+    struct lane_firmware firmware = {input + LANE_SYMBOL_BYTES, length - LANE_SYMBOL_BYTES, lane_word_at(input), lane_word_at(input + 4),
+                                     lane_word_at(input + 8)};
+    struct lane_lent lent = {rows, sizeof rows, trace, sizeof trace, record, sizeof record};
+    lane_run_with(&firmware, &setting, &lent, &written);
+}
 
 static void run_image(void)
 {
@@ -54,8 +63,8 @@ static size_t taken(void (*call)(void))
 
 int main(int argc, char **argv)
 {
-    void (*calls[CALLS])(void) = {run, run_image, run_range, read_record, write_record};
-    const char *names[CALLS] = {"lane_run", "lane_run_image", "lane_run_range", "lane_read_record", "lane_write_record"};
+    void (*calls[CALLS])(void) = {run, run_with, run_image, run_range, read_record, write_record};
+    const char *names[CALLS] = {"lane_run", "lane_run_with", "lane_run_image", "lane_run_range", "lane_read_record", "lane_write_record"};
     size_t most[CALLS] = {0};
     for (int k = 1; k < argc; k++) {
         FILE *file = fopen(argv[k], "rb");

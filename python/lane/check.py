@@ -57,14 +57,14 @@ def starts(outcome, rows):
 
 def other_ranges(loaded, given, proved=None):
     """A function that gives the outcome of another range of inputs that is lent so many entries."""
-    plain = dataclasses.replace(loaded, copied=[])  # what start-up code copies was looked at
-    return lambda inputs, entries: plain.attempt(inputs, given.rows, entries, proved).outcome
+    plain, chosen = dataclasses.replace(loaded, copied=[]), setting.chosen(given)  # what start-up code copies was looked at
+    return lambda inputs, entries: plain.attempt(**{**chosen, 'inputs': inputs, 'steps': entries}, proved=proved).outcome
 
 
 def check(proved, name, given):
     """Runs one file."""
     loaded = Firmware.read(name, given.entry, given.event_count, given.events, given.startup)
-    run = loaded.attempt(given.inputs, given.rows, given.steps, proved)
+    run = loaded.attempt(**setting.chosen(given), proved=proved)
     refused = isinstance(run.outcome, record.Refused) and starts(run.outcome, given.rows)
     explanation = explain(loaded, run, given, other_ranges(loaded, given, proved)) if refused else None
     return Checked(loaded, run, document.of_run(loaded, run, given, explanation))

@@ -46,19 +46,19 @@ class Firmware:
     def symbols(self):
         return self.entry, self.event_count, self.events
 
-    def attempt(self, inputs=record.INVALID_CHANNELS, rows=ROWS, steps=STEPS, proved=None):
+    def attempt(self, *, inputs=record.INVALID_CHANNELS, rows=ROWS, steps=STEPS, proved=None):
         """The run, whatever it is refused with. One that is refused for its range of inputs has no record."""
-        proved = proved or library.proved()
+        proved, chosen = proved or library.proved(), {'inputs': inputs, 'steps': steps}
         if self.copied:
-            self.check_copies(inputs, rows, steps, proved)
+            self.check_copies(rows=rows, proved=proved, **chosen)
         few = min(rows, FEW_ROWS)  # a run sets all rows to zero first; more change nothing but 13 (MoreRows, predicate_semantics/specs/Lent.antt)
-        ran = self.lent(inputs, few, steps, proved)
-        return self.lent(inputs, rows, steps, proved) if few < rows and getattr(ran.outcome, 'number', 0) == record.TOO_FEW_ROWS else ran
+        ran = self.lent(proved, rows=few, **chosen)
+        return self.lent(proved, rows=rows, **chosen) if few < rows and getattr(ran.outcome, 'number', 0) == record.TOO_FEW_ROWS else ran
 
-    def lent(self, inputs, rows, steps, proved):
-        """The run that is lent so much."""
+    def lent(self, proved, **chosen):
+        """The one run of the library with what is chosen and lent."""
         try:
-            whole = proved.run_range(self.image, self.symbols, inputs, rows, steps)
+            whole = proved.run(self.image, self.symbols, **chosen)
         except Failure as why:
             if why.number != record.FIRST_ABOVE_LAST:
                 raise
@@ -67,20 +67,21 @@ class Firmware:
         accepted = isinstance(outcome, record.Accepted)
         return Run(whole, outcome, outcome.trace if accepted else record.Trace(proved.trace(outcome.completed_steps)))
 
-    def check_copies(self, inputs, rows, steps, proved):
+    def check_copies(self, **chosen):
         """The entry is start-up code: of each piece that it has to copy, the first and the last word that are not zero are stored. A run with
         its event count there tells: only where nothing is stored can it be accepted without an event."""
         for address, contents in self.copied:
             words = [address + k for k in range(0, len(contents), 4) if any(contents[k:k + 4])]
             for word in words[:1] + words[1:][-1:]:
-                outcome = dataclasses.replace(self, event_count=word, copied=[]).attempt(inputs, rows, steps, proved).outcome
+                outcome = dataclasses.replace(self, event_count=word, copied=[]).attempt(**chosen).outcome
                 if isinstance(outcome, record.Accepted) and not outcome.events:
                     raise Failure(f'{shown(self.name)}: the entry, {self.entry:08x}, is no start-up code that copies initialised data (--startup): '
                                   f'the run stores nothing at {word:08x}')
 
-    def run(self, inputs=record.INVALID_CHANNELS, rows=ROWS, steps=STEPS, proved=None):
-        """The run, where it is accepted or the firmware causes the refusal."""
-        ran = self.attempt(inputs, rows, steps, proved)
+    def run(self, *, inputs=record.INVALID_CHANNELS, rows=ROWS, steps=STEPS, proved=None):
+        """The run, where it is accepted or the firmware causes the refusal. Inputs are the first and the last, each from 0 to 255; rows and
+        steps are how many written bytes and steps are lent for."""
+        ran = self.attempt(inputs=inputs, rows=rows, steps=steps, proved=proved)
         message = f'{shown(self.name)}: {record.verdict(ran.outcome)}'
         if record.status(ran.outcome) == Failure.status:
             raise Failure(message, ran.outcome.number)

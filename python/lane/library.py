@@ -9,6 +9,7 @@ from .errors import Failure
 HEADING_BYTES, EVENT_BYTES, STEP_BYTES, REFUSED_BYTES = 21, 17, 14, 7  # the items of a record
 ROW_BYTES, ENTRY_BYTES, MIN_ROWS = 264, 13, 4  # what is lent: a row for a written byte, an entry for a step
 SYMBOL_BYTES = 12  # before the image in an input
+FIRST_INPUT, LAST_INPUT = 6, 255  # where no others are chosen
 MAX_LANES, MAX_STEPS, MAX_EVENTS = 256, 1000000, 32
 MEMORY_START, MEMORY_END, STOP = 0x80000000, 0x80200000, 0x801FFFFC  # MEMORY_END is the first address past memory
 MAX_ROWS = MEMORY_END - MEMORY_START
@@ -51,8 +52,9 @@ def load(path):
         functions = ctypes.CDLL(path)
         lent, word, byte = [ctypes.c_char_p, ctypes.c_size_t], ctypes.c_uint32, ctypes.c_uint8
         written, outcome = ctypes.POINTER(ctypes.c_uint64), ctypes.POINTER(Outcome)
-        for name, types in {'lane_run': lent * 4 + [written], 'lane_run_image': lent + [word] * 3 + lent * 3 + [written],
-                            'lane_run_range': lent + [word] * 3 + [byte] * 2 + lent * 3 + [written],
+        firmware, inputs, room = lent + [word] * 3, [byte] * 2, lent * 3 + [written]
+        for name, types in {'lane_run_with_plain': firmware + inputs + room, 'lane_run_image': firmware + room,
+                            'lane_run_range': firmware + inputs + room, 'lane_run': lent + room,
                             'lane_read_record': lent * 2 + [outcome], 'lane_write_record': [outcome] + lent * 2 + [written]}.items():
             getattr(functions, name).argtypes = types
             getattr(functions, name).restype = word
@@ -86,26 +88,24 @@ class Library:
         self.call(name, *words, *room, ctypes.byref(written))
         return ctypes.string_at(room[0], written.value)
 
-    def run(self, name, *words, rows, entries):
+    def write_run(self, name, *words, rows, steps):
         """The record of a run that is lent so much."""
-        return self.write(name, *words, *self.lend('rows', ROW_BYTES * rows), *self.lend('trace', ENTRY_BYTES * entries),
-                          output=record_bytes(entries))
+        return self.write(name, *words, *self.lend('rows', ROW_BYTES * rows), *self.lend('trace', ENTRY_BYTES * steps),
+                          output=record_bytes(steps))
 
     def trace(self, entries):
         """The first entries of the last run's trace."""
         return ctypes.string_at(self.lent.trace, ENTRY_BYTES * entries)
 
-    def run_input(self, data, rows=PROGRAM_ROWS, entries=PROGRAM_STEPS):
+    def run(self, image, symbols, *, inputs=(FIRST_INPUT, LAST_INPUT), rows=PROGRAM_ROWS, steps=PROGRAM_STEPS):
+        """The record of an image; symbols are the addresses of entry, event count and events, inputs the first and the last, each from 0 to 255,
+        rows and steps what is lent for."""
+        first, last = bytes(inputs)  # ctypes would cut 256
+        return self.write_run('lane_run_with_plain', image, len(image), *symbols, first, last, rows=rows, steps=steps)
+
+    def run_input(self, data, *, rows=PROGRAM_ROWS, steps=PROGRAM_STEPS):
         """The record of an input: three addresses and the image, as lane-run reads it."""
-        return self.run('lane_run', data, len(data), rows=rows, entries=entries)
-
-    def run_image(self, image, symbols, rows=PROGRAM_ROWS, entries=PROGRAM_STEPS):
-        """The record of an image; symbols are the addresses of entry, event count and events."""
-        return self.run('lane_run_image', image, len(image), *symbols, rows=rows, entries=entries)
-
-    def run_range(self, image, symbols, inputs, rows=PROGRAM_ROWS, entries=PROGRAM_STEPS):
-        """The same with the inputs from first to last, each from 0 to 255, in place of 6 to 255."""
-        return self.run('lane_run_range', image, len(image), *symbols, *bytes(inputs), rows=rows, entries=entries)  # ctypes would cut 256
+        return self.write_run('lane_run', data, len(data), rows=rows, steps=steps)
 
     def read_record(self, record, entries=None):
         """What a record says, as an Outcome and the entries of its steps; by default so many are lent as its bytes could hold."""

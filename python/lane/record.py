@@ -6,8 +6,8 @@ import struct
 
 from . import library
 from .errors import Failure
-from .library import (ENTRY_BYTES, EVENT_BYTES, HEADING_BYTES, MAX_EVENTS, MAX_LANES, MAX_ROWS, MAX_STEPS, MIN_ROWS, REASONS, REFUSED_BYTES, ROLES,
-                      STEP_BYTES, STOP)
+from .library import (ENTRY_BYTES, EVENT_BYTES, FIRST_INPUT, HEADING_BYTES, LAST_INPUT, MAX_EVENTS, MAX_LANES, MAX_ROWS, MAX_STEPS, MIN_ROWS, REASONS,
+                      REFUSED_BYTES, ROLES, STEP_BYTES, STOP)
 
 LAST_REFUSAL = 14  # the last number that a record holds
 TOO_FEW_ROWS, TOO_FEW_STEPS, NO_RECORD, FIRST_ABOVE_LAST = 13, 14, 15, 17
@@ -21,7 +21,7 @@ Event = collections.namedtuple('Event', library.EVENT_WORDS)
 Accepted = collections.namedtuple('Accepted', 'first_input lanes return_value steps lane_operations written_bytes events trace')
 Refused = collections.namedtuple('Refused', 'number role completed_steps')
 InputRange = collections.namedtuple('InputRange', 'first last')
-INVALID_CHANNELS = InputRange(6, 255)  # of a six-channel controller: what lane-run runs
+INVALID_CHANNELS = InputRange(FIRST_INPUT, LAST_INPUT)  # of a six-channel controller: what lane-run runs
 ENTRY = struct.Struct('<IIBI')
 OUTCOME_WORDS = ctypes.sizeof(library.Outcome) // 4
 OUTCOME = struct.Struct(f'={OUTCOME_WORDS}I')

@@ -66,7 +66,7 @@ def body(prog, words):
     setting.add_options(parser)
     given = parse(parser, words)
     loaded = Firmware.read(given.file, given.entry, given.event_count, given.events, given.startup)
-    ran = loaded.attempt(given.inputs, given.rows, given.steps, library.proved(lambda line: say(prog, line)))
+    ran = loaded.attempt(**setting.chosen(given), proved=library.proved(lambda line: say(prog, line)))
     for warning in [*loaded.warnings, *doubts.of_run(loaded, ran)]:
         say(prog, f'{shown(given.file)}: warning: {warning}')
     if ran.record:

@@ -27,6 +27,11 @@ def input_range(word):
     return record.InputRange(*map(int, ends))
 
 
+def chosen(given):
+    """The keywords of a run that has these options."""
+    return {'inputs': given.inputs, 'rows': given.rows, 'steps': given.steps}
+
+
 def add_options(parser):
     parser.add_argument('--entry', metavar='SYMBOL', type=symbol_word, help="the handler (else the ELF's entry)")
     parser.add_argument('--event-count', metavar='SYMBOL', type=symbol_word, help='the word that counts events (else event_count)')
