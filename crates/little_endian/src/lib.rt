@@ -1,4 +1,6 @@
 // Little-endian numbers of 1, 2 and 4 bytes at a place of a slice: a byte past the end reads as 0 and is not written.
+#![tactic(auto)]
+
 ghost use Rattle.std.specs.Prelude.{◌≡◌, [], ◌∷◌, ◌+◌, get_or, take, drop, set};
 ghost use Rattle.std.proofs.lemmas.List.Edits.{sets};
 ghost use Rattle.little_endian.specs.Number.{value, bytes};

@@ -1,5 +1,5 @@
 -- Memory and its limits (document 01, Written byte and Who causes a refusal).
-use Rattle.std.specs.Prelude.{ℕ, ◌-◌}
+use Rattle.std.specs.Prelude.{ℕ}
 
 -- Written byte: the first address of memory, and of the image
 abbrev pub image_base : ℕ

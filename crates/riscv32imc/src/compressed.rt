@@ -10,7 +10,7 @@ use crate::encode::{encode_b, encode_i, encode_j, encode_r, encode_s, encode_u};
 use rv32_arithmetic::sign_extend;
 
 // What a halfword expands to.
-#[derive(Drop)]
+#[derive(Clone, Copy)]
 pub enum Expanded {
     Word(u32),
     Refused,
@@ -103,6 +103,7 @@ fn unless_zero(field: u32, word: u32) -> Expanded
     Expanded::Word(word)
 }
 
+#[tactic(auto, unfolding(crate::specs::Expansion::cAddi4spn))]
 fn c_addi4spn(h: u32) -> Expanded
     ensures { result ≡ cAddi4spn h }
 {
@@ -122,6 +123,7 @@ fn c_sw(h: u32) -> Expanded
     Expanded::Word(encode_s(2, h / 128 % 8 + 8, h / 4 % 8 + 8, lw_offset(h)))
 }
 
+#[tactic(auto, unfolding(crate::specs::Expansion::quadrant0))]
 fn quadrant_0(h: u32) -> Expanded
     ensures { result ≡ quadrant0 h }
 {
@@ -157,6 +159,7 @@ fn c_li(h: u32) -> Expanded
     Expanded::Word(encode_i(0x13, 0, rd, 0, sign_extend(addi_imm(h), 6)))
 }
 
+#[tactic(auto, unfolding(crate::specs::Expansion::cAddi16sp))]
 fn c_addi16sp(h: u32) -> Expanded
     ensures { result ≡ cAddi16sp h }
 {
@@ -164,6 +167,7 @@ fn c_addi16sp(h: u32) -> Expanded
     unless_zero(imm, encode_i(0x13, 0, 2, 2, sign_extend(imm, 10)))
 }
 
+#[tactic(auto, unfolding(crate::specs::Expansion::cLui))]
 fn c_lui(h: u32) -> Expanded
     ensures { result ≡ cLui h }
 {
@@ -173,6 +177,7 @@ fn c_lui(h: u32) -> Expanded
 }
 
 // C.SRLI with funct7 0, C.SRAI with 0x20.
+#[tactic(auto, unfolding(crate::specs::Expansion::cShift))]
 fn c_shift(funct7: u32, h: u32) -> Expanded
     requires { funct7 < 128 }
     ensures { result ≡ cShift funct7 h }
@@ -200,6 +205,7 @@ fn c_operation(funct7: u32, base_funct3: u32, h: u32) -> Expanded
     Expanded::Word(encode_r(funct7, base_funct3, rd, rd, h / 4 % 8 + 8))
 }
 
+#[tactic(auto, unfolding(crate::specs::Expansion::cOperations))]
 fn c_operations(h: u32) -> Expanded
     ensures { result ≡ cOperations h }
 {
@@ -215,6 +221,7 @@ fn c_operations(h: u32) -> Expanded
     Expanded::Refused
 }
 
+#[tactic(auto, unfolding(crate::specs::Expansion::cArithmetic))]
 fn c_arithmetic(h: u32) -> Expanded
     ensures { result ≡ cArithmetic h }
 {
@@ -240,6 +247,7 @@ fn c_branch(base_funct3: u32, h: u32) -> Expanded
     ))
 }
 
+#[tactic(auto, unfolding(crate::specs::Expansion::quadrant1))]
 fn quadrant_1(h: u32) -> Expanded
     ensures { result ≡ quadrant1 h }
 {
@@ -261,6 +269,7 @@ fn quadrant_1(h: u32) -> Expanded
     }
 }
 
+#[tactic(auto, unfolding(crate::specs::Expansion::cSlli))]
 fn c_slli(h: u32) -> Expanded
     ensures { result ≡ cSlli h }
 {
@@ -271,6 +280,7 @@ fn c_slli(h: u32) -> Expanded
     Expanded::Refused
 }
 
+#[tactic(auto, unfolding(crate::specs::Expansion::cLwsp))]
 fn c_lwsp(h: u32) -> Expanded
     ensures { result ≡ cLwsp h }
 {
@@ -279,6 +289,7 @@ fn c_lwsp(h: u32) -> Expanded
 }
 
 // C.JR, C.MV, C.EBREAK, C.JALR, C.ADD.
+#[tactic(auto, unfolding(crate::specs::Expansion::cRegisters))]
 fn c_registers(h: u32) -> Expanded
     ensures { result ≡ cRegisters h }
 {
@@ -305,6 +316,7 @@ fn c_swsp(h: u32) -> Expanded
     Expanded::Word(encode_s(2, 2, h / 4 % 32, swsp_offset(h)))
 }
 
+#[tactic(auto, unfolding(crate::specs::Expansion::quadrant2))]
 fn quadrant_2(h: u32) -> Expanded
     ensures { result ≡ quadrant2 h }
 {
@@ -319,6 +331,7 @@ fn quadrant_2(h: u32) -> Expanded
 }
 
 // The word that a halfword expands to, or that it is refused.
+#[tactic(auto, unfolding(crate::specs::Expansion::expand))]
 pub fn decompress(raw: u16) -> Expanded
     ensures { result ≡ expand raw }
 {

@@ -1,4 +1,6 @@
 // The expansion of compressed instructions and the limits of memory, ported from riscv32imc.rs.
+#![tactic(auto)]
+
 mod compressed;
 mod encode;
 

@@ -1,4 +1,6 @@
 // The 32-bit words of the instruction set: the operations, the table that tells them apart, and the decoder.
+#![tactic(auto)]
+
 ghost use Rattle.std.specs.Prelude.{◌≡◌};
 ghost use Rattle.riscv_decode.specs.Decode.{operation_of, decode_with, decode_of};
 
@@ -13,47 +15,47 @@ use rows::{Table, find_row, find_standing_row};
 pub const OPERATIONS: usize = 47;
 
 // Operands, a struct for each of the manual's formats; immediates are sign-extended to 32 bits.
-#[derive(Drop)]
+#[derive(Clone, Copy)]
 pub struct UType {
     pub rd: u32,
     pub imm: u32,
 }
 
-#[derive(Drop)]
+#[derive(Clone, Copy)]
 pub struct JType {
     pub rd: u32,
     pub imm: u32,
 }
 
-#[derive(Drop)]
+#[derive(Clone, Copy)]
 pub struct IType {
     pub rd: u32,
     pub rs1: u32,
     pub imm: u32,
 }
 
-#[derive(Drop)]
+#[derive(Clone, Copy)]
 pub struct BType {
     pub rs1: u32,
     pub rs2: u32,
     pub imm: u32,
 }
 
-#[derive(Drop)]
+#[derive(Clone, Copy)]
 pub struct SType {
     pub rs1: u32,
     pub rs2: u32,
     pub imm: u32,
 }
 
-#[derive(Drop)]
+#[derive(Clone, Copy)]
 pub struct ShiftType {
     pub rd: u32,
     pub rs1: u32,
     pub shamt: u32,
 }
 
-#[derive(Drop)]
+#[derive(Clone, Copy)]
 pub struct RType {
     pub rd: u32,
     pub rs1: u32,
@@ -61,7 +63,7 @@ pub struct RType {
 }
 
 // The accepted operations in the order of their numbers, from 1 on, each with its operands.
-#[derive(Drop)]
+#[derive(Clone, Copy)]
 pub enum Operation {
     Lui(UType),
     Auipc(UType),
@@ -113,14 +115,14 @@ pub enum Operation {
 }
 
 // What a word decodes to.
-#[derive(Drop)]
+#[derive(Clone, Copy)]
 pub enum Decoded {
     Known(Operation),
     Refused,
 }
 
 // A fetched instruction; the word is the one after expansion, the length that of its spelling, 2 or 4 bytes.
-#[derive(Drop)]
+#[derive(Clone, Copy)]
 pub struct Fetched {
     pub operation: Operation,
     pub length: u32,
@@ -128,7 +130,7 @@ pub struct Fetched {
 }
 
 // A row of a decoding table: mask, match and operation number.
-#[derive(Drop)]
+#[derive(Clone, Copy)]
 pub struct Row(pub u32, pub u32, pub u32);
 
 // The operation of a number, with the operands that the word has in its format; 0 and what is above the last have none.
@@ -145,6 +147,7 @@ fn decode_as(number: u32, word: u32) -> Decoded
 }
 
 // The operation of a word by a table; a word that matches no row is refused.
+#[tactic(auto, unfolding(crate::specs::Decode::decode_with))]
 pub fn decode_with(rows: Table, word: u32) -> Decoded
     ensures { result ≡ decode_with rows word }
 {
@@ -152,6 +155,7 @@ pub fn decode_with(rows: Table, word: u32) -> Decoded
 }
 
 // The operation of a word by the standing table.
+#[tactic(auto, unfolding(crate::specs::Decode::decode_of, crate::specs::Decode::decode_with))]
 pub fn decode(word: u32) -> Decoded
     ensures { result ≡ decode_of word }
 {

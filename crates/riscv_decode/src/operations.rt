@@ -7,6 +7,7 @@ use crate::operands::{b_type, i_type, j_type, r_type, s_type, shift_type, u_type
 use crate::{Decoded, Operation};
 
 // Jumps, branches, loads and stores, and what puts an address together.
+#[tactic(auto, unfolding(crate::specs::Decode::operation_of, crate::specs::Listing::listing, crate::specs::Listing::operation))]
 fn transfer_of(number: u32, word: u32) -> Operation
     requires { (1 ≤ number) × (number ≤ 18) }
     ensures { Decoded.Known result ≡ operation_of number word }
@@ -34,6 +35,7 @@ fn transfer_of(number: u32, word: u32) -> Operation
 }
 
 // What computes, and the fences.
+#[tactic(auto, unfolding(crate::specs::Decode::operation_of, crate::specs::Listing::listing, crate::specs::Listing::operation))]
 fn computing_of(number: u32, word: u32) -> Operation
     requires { (19 ≤ number) × (number ≤ operation_count) }
     ensures { Decoded.Known result ≡ operation_of number word }

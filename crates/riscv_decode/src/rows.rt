@@ -109,6 +109,7 @@ const STANDING_ROWS: Table = [
     AND, MUL, DIV, DIVU, REM, REMU, FENCE, FENCE_I, MULH, MULHSU, MULHU,
 ];
 
+#[tactic(auto, unfolding(crate::specs::Rows::standing_rows, crate::specs::Rows::rows_from, crate::specs::Rows::mask_of, crate::specs::Rows::match_of, crate::specs::Listing::listing, crate::specs::Listing::fixed))]
 pub fn standing_rows() -> Table
     ensures { result ≡ standing_rows }
 {

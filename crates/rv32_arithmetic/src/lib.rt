@@ -1,4 +1,6 @@
 // The operations on single 32-bit values (the manual's RV32I and M chapters).
+#![tactic(auto)]
+
 ghost use Rattle.std.specs.Prelude.{◌≡◌};
 ghost use Rattle.rv32_arithmetic.specs.Arithmetic.{signed, unsigned, flag, add, sub, sll, srl, sra, slt, sltu, and, or, xor, mul, mulh, mulhsu, mulhu, div, divu, rem, remu, beq, bne, bge, bgeu, target};
 ghost use Rattle.rv32_arithmetic.specs.Bits.{sign_extend, byte_of, join};
@@ -127,7 +129,7 @@ pub fn rv32_mulh(a: u32, b: u32) -> u32
 }
 
 // A signed quotient and its remainder.
-#[derive(Drop)]
+#[derive(Clone, Copy)]
 struct Division {
     quotient: u32,
     remainder: u32,
@@ -170,7 +172,7 @@ pub fn rv32_rem(dividend: u32, divisor: u32) -> u32
 }
 
 // Whether a number is one of the 32 powers of two, and of how many places.
-#[derive(Drop)]
+#[derive(Clone, Copy)]
 pub enum PowerOfTwo {
     Places(u32),
     Other,
@@ -277,7 +279,7 @@ pub fn sign_extend(value: u32, bits: u32) -> u32
 }
 
 // The operations of two values.
-#[derive(Drop)]
+#[derive(Clone, Copy)]
 pub enum Binary {
     Add,
     Sub,

@@ -1,0 +1,44 @@
+use Rattle.riscv_decode.specs.Listing.{listing, fixed}
+use Rattle.riscv_decode.specs.Rows.{mask_of, match_of, rows_from, standing_rows}
+use Rattle.riscv_decode.proofs.Apart.{stands}
+use Rattle.riscv_decode.proofs.rows.likely_register.Goals as goal
+
+pub returns-in-0 : goal.returns-in-0
+unfolding standing_rows rows_from listing fixed mask_of match_of
+returns-in-0 c = stands 37 tt
+
+pub returns-in-1 : goal.returns-in-1
+unfolding standing_rows rows_from listing fixed mask_of match_of
+returns-in-1 c = stands 44 tt
+
+pub returns-in-2 : goal.returns-in-2
+unfolding standing_rows rows_from listing fixed mask_of match_of
+returns-in-2 c = stands 45 tt
+
+pub returns-in-3 : goal.returns-in-3
+unfolding standing_rows rows_from listing fixed mask_of match_of
+returns-in-3 c = stands 46 tt
+
+pub returns-in-4 : goal.returns-in-4
+unfolding standing_rows rows_from listing fixed mask_of match_of
+returns-in-4 c = stands 38 tt
+
+pub returns-in-5 : goal.returns-in-5
+unfolding standing_rows rows_from listing fixed mask_of match_of
+returns-in-5 c = stands 39 tt
+
+pub returns-in-6 : goal.returns-in-6
+unfolding standing_rows rows_from listing fixed mask_of match_of
+returns-in-6 c = stands 40 tt
+
+pub returns-in_default : goal.returns-in_default
+unfolding standing_rows rows_from listing fixed mask_of match_of
+returns-in_default c = stands 41 tt
+
+pub returns-in-0-funct3 : goal.returns-in-0-funct3
+unfolding standing_rows rows_from listing fixed mask_of match_of
+returns-in-0-funct3 c = stands 28 tt
+
+pub returns-in_default-funct3 : goal.returns-in_default-funct3
+unfolding standing_rows rows_from listing fixed mask_of match_of
+returns-in_default-funct3 c = stands 34 tt
