@@ -1,4 +1,6 @@
 // Lane words: a value of 32 bits for each lane, and whether they are known.
+#![tactic(auto)]
+
 ghost use Rattle.std.specs.Prelude.{◌≡◌, ◌&&◌, length};
 ghost use Rattle.rv32_arithmetic.specs.Arithmetic.{add, sub, sll, srl, sra, slt, sltu, and, or, xor, mul, mulh, mulhsu, mulhu, div, divu, rem, remu, beq, bne, bge, bgeu, target};
 ghost use Rattle.rv32_arithmetic.specs.Bits.{sign_extend};
@@ -12,21 +14,21 @@ ghost use Rattle.lane_word.specs.Divisor.{common_power};
 use rv32_arithmetic::{Binary, PowerOfTwo, power_of, value};
 
 // One flag serves all lanes: the flags of one word always agree.
-#[derive(Drop)]
+#[derive(Clone, Copy)]
 pub struct LaneWord {
     pub values: [u32; LaneWord::LANES],
     pub known: bool,
 }
 
 // The inputs that the lanes are for: from the first to the last, both of them too.
-#[derive(Drop)]
+#[derive(Clone, Copy)]
 pub struct InputRange {
     pub first: u8,
     pub last: u8,
 }
 
 // What the uniform test finds.
-#[derive(Drop)]
+#[derive(Clone, Copy)]
 pub enum Uniform {
     Value(u32),
     Unknown,
@@ -34,7 +36,7 @@ pub enum Uniform {
 }
 
 // What is kept of a word or a byte: one value for every lane, or only its lanes tell.
-#[derive(Drop)]
+#[derive(Clone, Copy)]
 pub enum Told {
     Value(u32),
     Lanes,
@@ -61,7 +63,7 @@ fn zip_values(operation: Binary, left: &[u32], out: &mut [u32])
 
 // The uniform test: the flag, then the values, as far as they equal lane 0's.
 pub fn tell(known: bool, values: &[u32]) -> Uniform
-    ensures { result ≡ uniform_of (record { values = values.entry.now; known = known }) }
+    ensures { result ≡ uniform_of (record { values = values.now; known = known }) }
 {
     if !known {
         return Uniform::Unknown;
@@ -85,7 +87,7 @@ pub fn tell(known: bool, values: &[u32]) -> Uniform
 // The power of two that every lane is. Lane 0 is looked at first: where it is none, the others need not be.
 fn common_power(known: bool, values: &[u32]) -> PowerOfTwo
     requires { length values.now ≡ lanes }
-    ensures { result ≡ common_power (record { values = values.entry.now; known = known }) }
+    ensures { result ≡ common_power (record { values = values.now; known = known }) }
 {
     let power = power_of(values[0]);
     match power {

@@ -1,4 +1,6 @@
 // What an operation does at a program counter, as one of nine forms, and what a form reads.
+#![tactic(auto)]
+
 ghost use Rattle.std.specs.Prelude.{◌≡◌};
 ghost use Rattle.rv32_arithmetic.specs.Arithmetic.{add};
 ghost use Rattle.predicate_action.specs.Meaning.{meaning};
@@ -8,7 +10,7 @@ use riscv_decode::{BType, IType, Operation, RType, SType, ShiftType};
 use rv32_arithmetic::{Binary, rv32_add};
 
 // How a load fills the word.
-#[derive(Drop)]
+#[derive(Clone, Copy)]
 pub enum Extension {
     Byte,
     Halfword,
@@ -16,7 +18,7 @@ pub enum Extension {
 }
 
 // The forms. But for jumps and branches, the next program counter is that of the following instruction.
-#[derive(Drop)]
+#[derive(Clone, Copy)]
 pub enum Action {
     Nothing,
     // rd becomes a number.
@@ -141,6 +143,7 @@ fn compute_of(function: Binary, v: RType) -> Action
 }
 
 // The operation at a program counter.
+#[tactic(auto, unfolding(crate::specs::Meaning::meaning))]
 pub fn action_of(operation: Operation, pc: u32) -> Action
     ensures { result ≡ meaning operation pc }
 {
@@ -209,7 +212,7 @@ pub fn action_of(operation: Operation, pc: u32) -> Action
 }
 
 // What an action reads: the registers that are its sources, and a function of the first and a second operand, which is the second source or one number.
-#[derive(Drop)]
+#[derive(Clone, Copy)]
 pub struct Reading {
     pub rs1: u32,
     pub rs2: u32,

@@ -1,11 +1,13 @@
 // What a run answers: its numbers and events, or a refusal with its number, role and text; and the zeros that stand where there is nothing.
+#![tactic(auto)]
+
 ghost use Rattle.std.specs.Prelude.{◌≡◌};
 ghost use Rattle.predicate_answer.specs.Refusal.{role_of, run_refusal, refusal_after, call_number};
 ghost use Rattle.predicate_answer.specs.Blank.{no_execution, no_event, no_events};
 ghost use Rattle.predicate_answer.specs.Outcome.{refused_outcome, no_outcome};
 
 // One event, with the program counter of the SW that recorded it.
-#[derive(Drop)]
+#[derive(Clone, Copy)]
 pub struct CompiledMmioEvent {
     pub operation: u32,
     pub offset: u32,
@@ -14,7 +16,7 @@ pub struct CompiledMmioEvent {
 }
 
 // What an accepted run answers beside its events and its trace: the fields of a record's first item, in its order.
-#[derive(Drop)]
+#[derive(Clone, Copy)]
 pub struct PredicateTransducerExecution {
     pub first_input: u8,
     pub lane_count: u16,
@@ -29,7 +31,7 @@ pub struct PredicateTransducerExecution {
 pub const MAX_EVENTS: usize = 32;
 
 // What a word that is not known or not uniform was read for.
-#[derive(Drop)]
+#[derive(Clone, Copy)]
 pub enum Role {
     Fetch,
     JumpTarget,
@@ -44,7 +46,7 @@ pub enum Role {
 }
 
 // The refusals of a run, which its record holds.
-#[derive(Drop)]
+#[derive(Clone, Copy)]
 pub enum Rv32Error {
     ImageSize,
     SymbolOutside,
@@ -63,20 +65,20 @@ pub enum Rv32Error {
 }
 
 // The refusals of a call for what its caller chose, which no record holds.
-#[derive(Drop)]
+#[derive(Clone, Copy)]
 pub enum CallError {
     FirstAboveLast,
 }
 
 // Whether a call is refused for what its caller chose.
-#[derive(Drop)]
+#[derive(Clone, Copy)]
 pub enum CallVerdict {
     Passed,
     Refused(CallError),
 }
 
 // A run's refusal as an item 7F holds it.
-#[derive(Drop)]
+#[derive(Clone, Copy)]
 pub struct RecordRefusal {
     pub number: u8,
     pub role: u8,
@@ -84,7 +86,7 @@ pub struct RecordRefusal {
 }
 
 // A run's answer as its record has it.
-#[derive(Drop)]
+#[derive(Clone, Copy)]
 pub enum RecordAnswer {
     Accepted,
     Refused(RecordRefusal),
@@ -92,7 +94,7 @@ pub enum RecordAnswer {
 
 // What a run answers beside its trace, and a record is written of and read as. Of the events the first `event_count` count; after a refusal only
 // the answer does.
-#[derive(Drop)]
+#[derive(Clone, Copy)]
 pub struct RecordOutcome {
     pub answer: RecordAnswer,
     pub execution: PredicateTransducerExecution,

@@ -1,7 +1,9 @@
 // What is run beside its image, and the constants of a run. The definitions stand in specs/.
 
 // The three symbols of an image: where it starts, and where it leaves its events.
-#[derive(Drop)]
+#![tactic(auto)]
+
+#[derive(Clone, Copy)]
 pub struct Rv32SymbolLayout {
     pub entry: u32,
     pub event_count: u32,
@@ -9,7 +11,7 @@ pub struct Rv32SymbolLayout {
 }
 
 // What is run, beside its image: its symbols.
-#[derive(Drop)]
+#[derive(Clone, Copy)]
 pub struct Rv32Program {
     pub symbols: Rv32SymbolLayout,
 }

@@ -1,11 +1,13 @@
 // The bytes of a trace: a control step as the entry that a run leaves, which is also the body of a record's step.
+#![tactic(auto)]
+
 ghost use Rattle.std.specs.Prelude.{◌≡◌, ◌+◌, ◌≤◌, length};
 ghost use Rattle.std.proofs.lemmas.List.Edits.{sets};
 ghost use Rattle.little_endian.specs.Number.{bytes};
 ghost use Rattle.predicate_trace.specs.Trace.{put_entry};
 
 // One completed step; the word is the one after expansion.
-#[derive(Drop)]
+#[derive(Clone, Copy)]
 pub struct PredicateControlStep {
     pub program_counter: u32,
     pub instruction_word: u32,
@@ -28,6 +30,7 @@ fn set_word(s: &mut [u8], at: usize, x: u32)
 }
 
 // A step's entry at a place; where it does not lie inside, nothing is written.
+#[tactic(auto, unfolding(crate::specs::Trace::put_entry))]
 pub fn put_entry(s: &mut [u8], at: usize, step: PredicateControlStep)
     ensures { s.new ≡ put_entry s.old at step }
 {
