@@ -1,4 +1,6 @@
 // Loads and fetches of the lane run, over the image and the written bytes.
+#![tactic(auto)]
+
 ghost use Rattle.std.specs.Prelude.{◌≡◌, ℕ, ◌+◌, ◌≤◌, ◌^◌, ltb, length};
 ghost use Rattle.riscv32imc.specs.Constants.{image_base};
 ghost use Rattle.lane_word.specs.Word.{lanes};
@@ -25,35 +27,35 @@ pub const RV32_MEMORY_END: u32 = riscv32imc::RV32_IMAGE_BASE
     + riscv32imc::MAX_RV32_MEMORY_BYTES as u32;
 
 // A test passed, or its refusal.
-#[derive(Drop)]
+#[derive(Clone, Copy)]
 pub enum Verdict {
     Passed,
     Refused(Rv32Error),
 }
 
 // What the lanes agree on.
-#[derive(Drop)]
+#[derive(Clone, Copy)]
 pub enum Agreed {
     Value(u32),
     Refused(Rv32Error),
 }
 
 // A load's lane word stands beside its answer, which is its verdict.
-#[derive(Drop)]
+#[derive(Clone, Copy)]
 pub struct Accessed {
     pub verdict: Verdict,
     pub word: LaneWord,
 }
 
 // A load that one value tells, one that its lanes do, or its refusal.
-#[derive(Drop)]
+#[derive(Clone, Copy)]
 pub enum Loading {
     Value(u32),
     Lanes,
     Refused(Rv32Error),
 }
 
-#[derive(Drop)]
+#[derive(Clone, Copy)]
 pub enum Fetching {
     Got(Fetched),
     Refused(Rv32Error),
@@ -73,6 +75,7 @@ pub fn range_of(address: u32, width: u32) -> Verdict
 }
 
 // What a uniform test found, or the refusal in this role.
+#[tactic(auto, unfolding(predicate_semantics::specs::Tested::refuse))]
 pub fn agreed_in(tested: Uniform, role: Role) -> Agreed
     ensures { agreed_of result ≡ agreed_as (role_of role) tested }
 {
@@ -84,6 +87,7 @@ pub fn agreed_in(tested: Uniform, role: Role) -> Agreed
 }
 
 // The lanes' common value, or the refusal in this role.
+#[tactic(auto, unfolding(predicate_semantics::specs::Lane::agreed))]
 pub fn agree(word: LaneWord, role: Role) -> Agreed
     ensures { agreed_of result ≡ agreed (role_of role) word }
 {
@@ -108,6 +112,7 @@ fn in_image(image: &[u8], address: u32) -> bool
 }
 
 // The image's byte at an address, 0 past its end and below it.
+#[tactic(auto, using(little_endian::proofs::NumberLaws::value_one), unfolding(predicate_semantics::specs::Program::initial))]
 fn image_byte(image: &[u8], address: u32) -> u32
     ensures { result ≡ initial image.now address }
 {
@@ -144,6 +149,7 @@ fn join_bytes(image: &[u8], rows: &[u8], address: u32, width: u32) -> LaneWord
 }
 
 // What one value tells of the byte at an address.
+#[tactic(auto, unfolding(crate::specs::Seen::told_seen))]
 fn told_at(image: &[u8], rows: &[u8], address: u32) -> Told
     ensures { result ≡ told_seen image.now rows.now address }
 {
@@ -154,6 +160,7 @@ fn told_at(image: &[u8], rows: &[u8], address: u32) -> Told
 }
 
 // What the bytes' values tell, joined as the bytes are; one byte without a value leaves the number to its lanes.
+#[tactic(auto, using(crate::proofs::Loads::rest_none, crate::proofs::Loads::told_step, crate::proofs::Loads::told_ends), unfolding(crate::specs::Seen::told_read))]
 fn told_join(image: &[u8], rows: &[u8], address: u32, width: u32) -> Told
     requires { address + width ≤ 2 ^ 32 }
     ensures { result ≡ told_read (told_seen image.now rows.now) width address }
@@ -172,7 +179,7 @@ fn told_join(image: &[u8], rows: &[u8], address: u32, width: u32) -> Told
 }
 
 // A number that the image holds whole; without it the bytes are joined.
-#[derive(Drop)]
+#[derive(Clone, Copy)]
 enum ImageNumber {
     Number(u32),
     Elsewhere,
@@ -196,6 +203,7 @@ fn image_number(image: &[u8], address: u32, width: u32) -> ImageNumber
 }
 
 // What one value tells of the bytes from an address on.
+#[tactic(auto, using(crate::proofs::Loads::lies_told))]
 fn told_bytes(image: &[u8], rows: &[u8], address: u32, width: u32) -> Told
     requires { (image_base ≤ address) × (address + width ≤ 2 ^ 32) }
     ensures { result ≡ told_read (told_seen image.now rows.now) width address }
@@ -223,6 +231,7 @@ pub fn load(image: &[u8], rows: &[u8], address: u32, width: u32) -> Loading
 }
 
 // A load lane by lane: range, then the bytes.
+#[tactic(auto, using(crate::proofs::Loads::inside_fits, crate::proofs::Loads::answer_refused, crate::proofs::Loads::answer_passed))]
 pub fn access(image: &[u8], rows: &[u8], address: u32, width: u32) -> Accessed
     ensures { accessed_of result ≡ accessed_as (access lanes (seen image.now rows.now) width address) }
 {
@@ -267,7 +276,7 @@ fn decoded(word: u32, length: u32) -> Fetching
 }
 
 // A fetched word with the length of its spelling, or a refusal. Both lengths meet here, so that decoding is called at one place and inlined there.
-#[derive(Drop)]
+#[derive(Clone, Copy)]
 enum Spelling {
     Word { word: u32, length: u32 },
     Refused(Rv32Error),
@@ -285,7 +294,7 @@ fn expanded(half: u16) -> Spelling
 }
 
 // An instruction as it lies in memory: four bytes, or the low two of a number, or a refusal.
-#[derive(Drop)]
+#[derive(Clone, Copy)]
 enum Encoding {
     Four(u32),
     Two(u32),
@@ -293,6 +302,7 @@ enum Encoding {
 }
 
 // Where the image does not hold four bytes: two, which may be all that can be read, and four where the two say so.
+#[tactic(auto, using(crate::proofs::Loads::half_below, crate::proofs::Loads::fetch_refused, crate::proofs::Loads::fetch_whole, crate::proofs::Loads::fetch_half, crate::proofs::Loads::four_whole, crate::proofs::Loads::four_refused))]
 fn number_beyond(image: &[u8], rows: &[u8], pc: u32) -> Encoding
     ensures { (core : Core) (steps : ℕ) → encoding_of core steps result ≡ fetch lanes core (seen image.now rows.now) steps pc }
 {
@@ -313,6 +323,7 @@ fn number_beyond(image: &[u8], rows: &[u8], pc: u32) -> Encoding
 }
 
 // Four bytes of the image at once; a short instruction is the low two. The image may be longer than memory, so the range comes first.
+#[tactic(auto, using(crate::proofs::Loads::lies_begins, crate::proofs::Loads::begins_whole, crate::proofs::Loads::begins_half))]
 fn number_at(image: &[u8], rows: &[u8], pc: u32) -> Encoding
     ensures { (core : Core) (steps : ℕ) → encoding_of core steps result ≡ fetch lanes core (seen image.now rows.now) steps pc }
 {

@@ -13,7 +13,7 @@ use Rattle.lane_word.proofs.Clash.{clash}
 use Rattle.predicate_semantics.specs.Memory.{Written, byte_at, put, write}
 use Rattle.lane_memory.specs.LentRows.{head_bytes, row_bytes, row_count, cleared}
 use Rattle.lane_memory.specs.Search.{find_in}
-use Rattle.lane_memory.specs.Rows.{row_at, lane_byte, row_byte, held, row_of, word_byte, lane_row, value_row, write_row, store_at, store_row, store_byte, store_rows, store_bytes, store_values, load_at, load_byte, joined, Joined, told_at, told_byte, new_at, new_bytes, unmark_rows, unmarked}
+use Rattle.lane_memory.specs.Rows.{row_at, lane_byte, row_byte, held, row_of, word_byte, lane_row, value_row, write_row, store_at, store_row, store_rows, store_bytes, store_values, load_at, load_byte, joined, Joined, told_at, told_byte, new_at, new_bytes, unmark_rows, unmarked}
 use Rattle.lane_memory.specs.Holds.{lookup, content, one, Holds}
 use Rattle.lane_memory.specs.declared.Found.{Found}
 use Rattle.lane_memory.specs.declared.Found.TheVariants.{At, Free, Full}

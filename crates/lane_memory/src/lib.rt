@@ -1,4 +1,6 @@
 // Written bytes in lent memory: a row for each address, found by open addressing without deletion.
+#![tactic(auto)]
+
 ghost use Rattle.std.specs.Prelude.{◌≡◌, ◌+◌, ◌*◌, ◌^◌, ◌<◌, ◌≤◌, map, length, if◌then◌else◌};
 ghost use Rattle.std.proofs.lemmas.List.Edits.{sets};
 ghost use Rattle.rv32_arithmetic.specs.Bits.{byte_of};
@@ -19,7 +21,7 @@ pub const ROW_BYTES: usize = HEAD_BYTES + 256;
 const HOPS: usize = 32;
 
 // What a search for an address comes to: its row, a free row for it, or neither.
-#[derive(Drop)]
+#[derive(Clone, Copy)]
 pub enum Found {
     At(usize),
     Free(usize),
@@ -27,7 +29,7 @@ pub enum Found {
 }
 
 // What a row is to a search.
-#[derive(Drop)]
+#[derive(Clone, Copy)]
 enum Probe {
     Empty,
     Match,
@@ -41,6 +43,7 @@ pub fn row_count(rows: &[u8]) -> usize
     rows.len() / ROW_BYTES
 }
 
+#[tactic(auto, using(crate::proofs::RowBytes::sees_empty, crate::proofs::RowBytes::sees_match, crate::proofs::RowBytes::sees_other))]
 fn probe_row(rows: &[u8], row: usize, address: u32) -> Probe
     requires { row * row_bytes + row_bytes ≤ length rows.now }
     ensures { result ≡ probe (held rows.now row) address }
@@ -95,6 +98,7 @@ fn tries(count: usize) -> usize
 }
 
 // The row of an address, or one that it can take.
+#[tactic(auto, using(crate::proofs::Search::seek_none, crate::proofs::Search::seek_empty, crate::proofs::Search::seek_match, crate::proofs::Search::seek_on, crate::proofs::Search::seek_full))]
 pub fn find(rows: &[u8], address: u32) -> Found
     ensures { result ≡ row_of rows.now address }
 {
@@ -152,6 +156,7 @@ fn write_lanes(rows: &mut [u8], at: usize, values: [u32; LaneWord::LANES], place
     }
 }
 
+#[tactic(auto, unfolding(lane_word::specs::Word::unary))]
 fn write_row(rows: &mut [u8], row: usize, address: u32, word: LaneWord, place: u32)
     requires { row * row_bytes + row_bytes ≤ length rows.old }
     ensures { rows.new ≡ write_row rows.old row (lane_row address (word_byte place word)) }
@@ -163,6 +168,7 @@ fn write_row(rows: &mut [u8], row: usize, address: u32, word: LaneWord, place: u
 }
 
 // Store byte `place` of a word; a byte that finds no row is not stored.
+#[tactic(auto, using(crate::proofs::HashTables::at_inside, crate::proofs::HashTables::free_inside), unfolding(crate::specs::Rows::store_row))]
 pub fn store_byte(rows: &mut [u8], address: u32, word: LaneWord, place: u32)
     ensures { rows.new ≡ store_byte rows.old address (word_byte place word) }
 {
@@ -175,6 +181,7 @@ pub fn store_byte(rows: &mut [u8], address: u32, word: LaneWord, place: u32)
 }
 
 // Store the lowest `width` bytes of a word.
+#[tactic(auto, unfolding(crate::specs::Rows::store_bytes, crate::specs::Rows::store_rows))]
 pub fn store(rows: &mut [u8], address: u32, width: u32, word: LaneWord)
     ensures { rows.new ≡ store_bytes rows.old width address word }
 {
@@ -195,6 +202,7 @@ fn write_value(rows: &mut [u8], row: usize, address: u32, value: u8)
 }
 
 // Store one value for all lanes; a byte that finds no row is not stored.
+#[tactic(auto, using(crate::proofs::HashTables::at_inside, crate::proofs::HashTables::free_inside), unfolding(crate::specs::Rows::store_row))]
 fn store_value_byte(rows: &mut [u8], address: u32, value: u8)
     ensures { rows.new ≡ store_value rows.old address value }
 {
@@ -207,6 +215,7 @@ fn store_value_byte(rows: &mut [u8], address: u32, value: u8)
 }
 
 // Store the lowest `width` bytes of a number that is the same in all lanes.
+#[tactic(auto, unfolding(crate::specs::Rows::store_values, crate::specs::Rows::store_rows))]
 pub fn store_value(rows: &mut [u8], address: u32, width: u32, value: u32)
     ensures { rows.new ≡ store_values rows.old width address value }
 {
@@ -233,6 +242,7 @@ fn is_new(rows: &[u8], address: u32) -> u32
 }
 
 // How many of the `width` bytes from `address` on have no row yet.
+#[tactic(auto, unfolding(crate::specs::Rows::new_bytes))]
 pub fn new_bytes(rows: &[u8], address: u32, width: u32) -> u32
     ensures { result ≡ new_bytes rows.now width address }
 {
@@ -251,6 +261,7 @@ fn wide(x: u8) -> u32
     x as u32
 }
 
+#[tactic(auto, using(crate::proofs::RowBytes::row_values))]
 fn read_lanes(rows: &[u8], row: usize) -> LaneWord
     requires { row * row_bytes + row_bytes ≤ length rows.now }
     ensures { result ≡ lane_byte (row_at rows.now row) }
@@ -269,6 +280,7 @@ fn read_lanes(rows: &[u8], row: usize) -> LaneWord
     }
 }
 
+#[tactic(auto, unfolding(lane_word::specs::Word::constant))]
 fn every_lane(value: u8) -> LaneWord
     ensures { result ≡ constant lanes value }
 {
@@ -278,6 +290,7 @@ fn every_lane(value: u8) -> LaneWord
     }
 }
 
+#[tactic(auto, using(crate::proofs::RowBytes::row_at_place))]
 fn read_row(rows: &[u8], row: usize) -> LaneWord
     requires { row * row_bytes + row_bytes ≤ length rows.now }
     ensures { result ≡ row_byte (row_at rows.now row) }
@@ -290,6 +303,7 @@ fn read_row(rows: &[u8], row: usize) -> LaneWord
 }
 
 // The byte at an address: the written one, or `other` in every lane.
+#[tactic(auto, using(crate::proofs::HashTables::at_inside), unfolding(crate::specs::Rows::load_byte))]
 pub fn load_byte(rows: &[u8], address: u32, other: u8) -> LaneWord
     ensures { result ≡ load_byte rows.now address other }
 {
@@ -301,6 +315,7 @@ pub fn load_byte(rows: &[u8], address: u32, other: u8) -> LaneWord
     }
 }
 
+#[tactic(auto, using(crate::proofs::RowBytes::row_at_place))]
 fn told_row(rows: &[u8], row: usize) -> Told
     requires { row * row_bytes + row_bytes ≤ length rows.now }
     ensures { result ≡ told_row (row_at rows.now row) }
@@ -313,6 +328,7 @@ fn told_row(rows: &[u8], row: usize) -> Told
 }
 
 // The byte at an address where one value is told for all lanes: no lane is compared.
+#[tactic(auto, using(crate::proofs::HashTables::at_inside), unfolding(crate::specs::Rows::told_byte))]
 pub fn told_byte(rows: &[u8], address: u32, other: u8) -> Told
     ensures { result ≡ told_byte rows.now address other }
 {
@@ -325,6 +341,7 @@ pub fn told_byte(rows: &[u8], address: u32, other: u8) -> Told
 }
 
 // A number below each lane's value above it.
+#[tactic(auto, using(crate::proofs::Laws::joined_none))]
 pub fn join_value(low: u32, values: &mut [u32])
     ensures { values.new ≡ joined (constant lanes low) values.old }
 {
@@ -338,6 +355,7 @@ pub fn join_value(low: u32, values: &mut [u32])
     }
 }
 
+#[tactic(auto, using(crate::proofs::Laws::joined_none))]
 fn join_lanes(rows: &[u8], row: usize, values: &mut [u32])
     requires { row * row_bytes + row_bytes ≤ length rows.now }
     ensures { values.new ≡ joined (lane_byte (row_at rows.now row)) values.old }
@@ -353,6 +371,7 @@ fn join_lanes(rows: &[u8], row: usize, values: &mut [u32])
     }
 }
 
+#[tactic(auto, using(crate::proofs::RowBytes::row_at_place), unfolding(lane_word::specs::Word::constant))]
 fn join_row(rows: &[u8], row: usize, values: &mut [u32]) -> bool
     requires { row * row_bytes + row_bytes ≤ length rows.now }
     ensures { Joined (row_byte (row_at rows.now row)) values.old result values.new }
@@ -367,6 +386,7 @@ fn join_row(rows: &[u8], row: usize, values: &mut [u32]) -> bool
 }
 
 // The byte at an address below the values above it, in their place; whether the byte is known.
+#[tactic(auto, using(crate::proofs::HashTables::at_inside), unfolding(crate::specs::Rows::load_byte, lane_word::specs::Word::constant))]
 pub fn join_values(rows: &[u8], address: u32, other: u8, values: &mut [u32]) -> bool
     ensures { Joined (load_byte rows.now address other) values.old result values.new }
 {
@@ -385,6 +405,7 @@ pub fn join_values(rows: &[u8], address: u32, other: u8, values: &mut [u32]) -> 
 }
 
 // Every whole row is free again; only its used mark changes.
+#[tactic(auto, unfolding(crate::specs::Rows::unmark_rows))]
 pub fn unmark(rows: &mut [u8])
     ensures { rows.new ≡ unmarked rows.old }
 {
@@ -397,6 +418,7 @@ pub fn unmark(rows: &mut [u8])
 }
 
 // Zero in every whole row.
+#[tactic(auto, using(crate::proofs::Loops::zeros_exit))]
 pub fn clear(rows: &mut [u8])
     ensures { rows.new ≡ cleared rows.old }
 {

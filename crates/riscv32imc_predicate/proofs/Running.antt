@@ -12,6 +12,7 @@ use Rattle.little_endian.specs.Lent.{over}
 use Rattle.rv32_arithmetic.specs.Arithmetic.{mul}
 use Rattle.riscv32imc.specs.Constants.{image_base}
 use Rattle.lane_word.specs.declared.InputRange.{InputRange}
+use Rattle.lane_word.specs.declared.LaneWord.{LaneWord}
 use Rattle.lane_word.specs.Word.{constant, domain, lanes}
 use Rattle.lane_word.specs.Range.{input_count}
 use Rattle.lane_word.specs.Spare.{lane_inputs}
@@ -41,6 +42,7 @@ use Rattle.lane_memory.specs.Rows.{row_count, store_values, cleared}
 use Rattle.lane_memory.specs.Holds.{Holds}
 use Rattle.lane_memory.proofs.Laws.{holds_store_value}
 use Rattle.lane_access.proofs.Laws.{above_write}
+use Rattle.riscv32imc_predicate.specs.declared.Bounds.{Bounds}
 use Rattle.riscv32imc_predicate.specs.declared.Place.{Place}
 use Rattle.riscv32imc_predicate.specs.declared.Ending.{Ending}
 use Rattle.riscv32imc_predicate.specs.declared.Ending.TheVariants as ending
@@ -51,9 +53,9 @@ use Rattle.riscv32imc_predicate.specs.declared.PredicateRun.{PredicateRun}
 use Rattle.riscv32imc_predicate.specs.Setting.{Setting, Environment, environment, first_state, rest, registers_of}
 use Rattle.riscv32imc_predicate.specs.Coming.{Ends}
 use Rattle.riscv32imc_predicate.specs.Register.{Held, StartsWith}
-use Rattle.riscv32imc_predicate.specs.Tracking.{machine, Stands, Arrives, start_place, start_recorded}
+use Rattle.riscv32imc_predicate.specs.Tracking.{machine, Stands, Arrives, Advances, start_place, start_recorded}
 use Rattle.riscv32imc_predicate.specs.Reporting.{refused_run, reported, Counts, whole, never, whole_run, Calls, Reports}
-use Rattle.riscv32imc_predicate.proofs.LaneCount.{lane-count}
+use Rattle.riscv32imc_predicate.proofs.LaneCount.{lane_count}
 
 pub off : (b : Bool) → not b ≡ true → b ≡ false
 off true e = sym e
@@ -167,7 +169,7 @@ module _ {c : Setting} {image : List ℕ} {program : Rv32Program} {range : Input
     begin_held : {r : Registers} → StartsWith (domain (lane_inputs range)) r → Held (registers_of c) r.tags r.words (first_state c).registers
     unfolding begin
     begin_held {r} w =
-        rw (lane-count c k.serves.same_lanes, k.same_inputs) (w (registers_of c) k.serves.most_registers)
+        rw (lane_count c k.serves.same_lanes, k.same_inputs) (w (registers_of c) k.serves.most_registers)
 
     -- the stop word is stored
     pub begin_stands : Holds rows (row_count rows) [] → {rows' : List ℕ} → rows' ≡ store_values rows 4 stop stop_word → {place : Place} → place ≡ start_place symbols.entry
@@ -182,7 +184,7 @@ module _ {c : Setting} {image : List ℕ} {program : Rv32Program} {range : Input
             same_pc = ap (λ (x : Rv32SymbolLayout). x.entry) (sym k.serves.same_symbols);
             same_steps = refl;
             bounded = omega arith;
-            holds = rw (lane-count c k.serves.same_lanes) (holds_store_value b 4 stop stop_word (omega arith) (rw (lane-count c k.serves.same_lanes) at kept_first.stored.most));
+            holds = rw (lane_count c k.serves.same_lanes) (holds_store_value b 4 stop stop_word (omega arith) (rw (lane_count c k.serves.same_lanes) at kept_first.stored.most));
             above = above_write (image_end c.program) 4 stop (constant (count_of_lanes c.program c.setup) stop_word) [] (omega (arith, kept_first.fits.1)) tt;
             same_written = sym (four (constant (count_of_lanes c.program c.setup) stop_word));
             traced = sym k.same_lent;
@@ -190,6 +192,15 @@ module _ {c : Setting} {image : List ℕ} {program : Rv32Program} {range : Input
           keeps = (refl, refl);
           held = begin_held w;
         })
+
+    -- where a call of the loop from there ends
+    pub begin_arrives : Holds rows (row_count rows) [] → {rows' : List ℕ} → rows' ≡ store_values rows 4 stop stop_word → {place : Place} → place ≡ start_place symbols.entry
+        → {word : LaneWord} → word ≡ domain (lane_inputs range) → {r : Registers} → StartsWith word r → {noted : Recorded} → noted ≡ start_recorded
+        → {bounds : Bounds} → bounds ≡ whole_run limit trace → {q : Reached} {rows'' trace' : List ℕ}
+        → Advances (environment image symbols bounds) (machine place r noted rows' trace) q rows'' trace' → Arrives c loop_environment (first_state c) q rows'' trace'
+    begin_arrives j {rows'} e {place} p i {r} w {noted} n b {q} {rows''} {trace'} a =
+        subst (λ (x : Bounds). Advances (environment image symbols x) (machine place r noted rows' trace) q rows'' trace') b a c (first_state c)
+        (begin_stands j e p (subst (λ (x : LaneWord). StartsWith x r) i w) n)
 
     -- ---- where the loop ended
     module _ {q : Reached} {rows' trace' : List ℕ} (a : Arrives c loop_environment (first_state c) q rows' trace') where

@@ -16,6 +16,7 @@ use predicate_answer::{Role, Rv32Error};
 use rv32_arithmetic::{rv32_add, sign_extend};
 
 // A computed word that is uniform is set as one value.
+#[tactic(auto, using(lane_word::proofs::ToldLaws::told_is))]
 fn compute(rd: u32, tested: Uniform, next: u32) -> Decision
     ensures { SetsComputed result rd tested next × Suits tested result }
 {
@@ -126,6 +127,7 @@ fn load(
 }
 
 // Whether the written bytes and a store's new ones have rows; the new ones are looked for only where not all of the store's would.
+#[tactic(auto, using(lane_memory::proofs::Laws::new_bytes_most))]
 fn rows_suffice(rows: &[u8], written: u32, address: u32, width: u32) -> bool
     ensures { result ≡ leb (written + new_bytes rows.now width address) (row_count rows.now) }
 {

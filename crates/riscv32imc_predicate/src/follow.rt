@@ -8,6 +8,7 @@ use predicate_trace::{ENTRY_BYTES, PredicateControlStep, put_entry};
 use rv32_arithmetic::rv32_add;
 
 // One location more: the first are kept, the others counted.
+#[tactic(auto, using(crate::proofs::Locations::counted, crate::proofs::Locations::kept_first, crate::proofs::Locations::kept_others))]
 fn added(recorded: Recorded, pc: u32) -> Recorded
     ensures { Added recorded pc result }
 {
@@ -23,6 +24,7 @@ fn added(recorded: Recorded, pc: u32) -> Recorded
 }
 
 // An SW exactly at the event count's address is located, no other store.
+#[tactic(auto, using(crate::proofs::Locations::recorded_here, crate::proofs::Locations::recorded_elsewhere))]
 pub fn located(recorded: Recorded, pc: u32, address: u32, width: u32, event_count: u32) -> Recorded
     ensures { Located recorded pc address width event_count result }
 {

@@ -9,7 +9,7 @@ use predicate_answer::Rv32Error;
 use predicate_semantics::STOP;
 
 // A fetched instruction, as its action: the operation's own fields stay below.
-#[derive(Drop)]
+#[derive(Clone, Copy)]
 enum Instruction {
     Got {
         action: Action,
