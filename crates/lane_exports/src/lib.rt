@@ -1,4 +1,6 @@
-// The library for programs in other languages: numbers, byte slices and words only. include/lane.h declares these functions.
+// The functions for programs in other languages: numbers, byte slices and words only. lane_exports_c exports them to C under the same names.
+#![tactic(auto)]
+
 mod from_words;
 mod words;
 
@@ -15,7 +17,8 @@ use lane_library::RunAnswer;
 use lane_record::{ReadAnswer, WriteAnswer};
 use lane_word::InputRange;
 use predicate_semantics::{Rv32Program, Rv32SymbolLayout};
-use words::{OUTCOME_WORDS, words_of};
+pub use words::OUTCOME_WORDS;
+use words::words_of;
 
 // An answer as its number, with how many bytes are written beside it.
 fn coded(answer: RunAnswer, written: &mut u64) -> u32
@@ -25,8 +28,7 @@ fn coded(answer: RunAnswer, written: &mut u64) -> u32
     answer.number()
 }
 
-#[unsafe(no_mangle)]
-pub extern "C" fn lane_run(
+pub fn lane_run(
     input: &[u8],
     rows: &mut [u8],
     trace: &mut [u8],
@@ -40,8 +42,7 @@ pub extern "C" fn lane_run(
 }
 
 // A firmware, a setting and what is lent, field by field: include/lane.h has them as structs.
-#[unsafe(no_mangle)]
-pub extern "C" fn lane_run_with_plain(
+pub fn lane_run_with_plain(
     image: &[u8],
     entry: u32,
     event_count: u32,
@@ -69,8 +70,7 @@ pub extern "C" fn lane_run_with_plain(
     coded(answer, written)
 }
 
-#[unsafe(no_mangle)]
-pub extern "C" fn lane_run_image(
+pub fn lane_run_image(
     image: &[u8],
     entry: u32,
     event_count: u32,
@@ -97,8 +97,7 @@ pub extern "C" fn lane_run_image(
     )
 }
 
-#[unsafe(no_mangle)]
-pub extern "C" fn lane_run_range(
+pub fn lane_run_range(
     image: &[u8],
     entry: u32,
     event_count: u32,
@@ -136,12 +135,7 @@ fn reading_code(answer: ReadAnswer) -> u32
     }
 }
 
-#[unsafe(no_mangle)]
-pub extern "C" fn lane_read_record(
-    bytes: &[u8],
-    trace: &mut [u8],
-    outcome: &mut [u32; OUTCOME_WORDS],
-) -> u32
+pub fn lane_read_record(bytes: &[u8], trace: &mut [u8], outcome: &mut [u32; OUTCOME_WORDS]) -> u32
     ensures { ReadsWords (decode_record bytes.now) trace.old outcome.old result trace.new outcome.new }
 {
     let reading = lane_record::read_record(bytes, trace);
@@ -162,8 +156,7 @@ fn write_words(words: &[u32; OUTCOME_WORDS], trace: &[u8], output: &mut [u8]) ->
     lane_record::write_record(outcome, trace, output)
 }
 
-#[unsafe(no_mangle)]
-pub extern "C" fn lane_write_record(
+pub fn lane_write_record(
     outcome: &[u32; OUTCOME_WORDS],
     trace: &[u8],
     output: &mut [u8],

@@ -17,7 +17,6 @@ use Rattle.predicate_answer.specs.Outcome.{no_outcome}
 use Rattle.predicate_semantics.specs.declared.Rv32Program.{Rv32Program}
 use Rattle.predicate_semantics.specs.State.{Result, result_read}
 use Rattle.predicate_semantics.specs.Tested.{Tested, passed}
-use Rattle.predicate_semantics.specs.Tested as Tested
 use Rattle.predicate_semantics.specs.Lane.{LaneState, Ended, execution}
 use Rattle.predicate_semantics.specs.RecordRules.{numbers_over}
 use Rattle.predicate_semantics.specs.Standing.{scalar_answer}

@@ -1,4 +1,6 @@
 // A call from what its caller chose and lent to the record's bytes, and from the program's input bytes to them.
+#![tactic(auto)]
+
 ghost use Rattle.std.specs.Prelude.{◌≡◌};
 ghost use Rattle.lane_word.specs.Range.{invalid_channels};
 ghost use Rattle.lane_library.specs.Inputs.{input_program, image_in, taken, BeginsImage};
@@ -10,7 +12,7 @@ use predicate_answer::{CallError, CallVerdict};
 use predicate_semantics::{Rv32Program, Rv32SymbolLayout};
 
 // What a call answers: what the writer of its run's record does, or the refusal of the call.
-#[derive(Drop)]
+#[derive(Clone, Copy)]
 pub enum RunAnswer {
     Recorded(WriteAnswer),
     Refused(CallError),

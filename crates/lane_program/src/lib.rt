@@ -1,4 +1,6 @@
 // The program lane-run between its input and its output: what it lends to the run, and the record that it writes.
+#![tactic(auto)]
+
 ghost use Rattle.std.specs.Prelude.{◌≡◌, cond, ltb};
 ghost use Rattle.lane_program.specs.Program.{input_bytes, Outputs, Answers};
 
@@ -23,14 +25,14 @@ pub const RECORD_BYTES: usize = HEADING_BYTES + MAX_EVENTS * EVENT_BYTES + ENTRI
 pub const INPUT_BYTES: usize = lane_library::INPUT_BYTES + 1;
 
 // What came of the input: so many bytes before its end, or as many as there is room for; or a read failed, and nobody knows what would have followed.
-#[derive(Drop)]
+#[derive(Clone, Copy)]
 pub enum Reading {
     Bytes(usize),
     Failed,
 }
 
 // A record's bytes, and how many they are.
-#[derive(Drop)]
+#[derive(Clone, Copy)]
 pub struct ProgramOutput {
     pub bytes: [u8; RECORD_BYTES],
     pub count: usize,

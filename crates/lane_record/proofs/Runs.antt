@@ -22,7 +22,6 @@ use Rattle.predicate_answer.specs.Blank.{max_events, no_events}
 use Rattle.predicate_semantics.specs.State.{Result}
 use Rattle.predicate_semantics.specs.Tested.{Tested, passed}
 use Rattle.predicate_answer.specs.Refusal.{RunRefusal, of_run, of_call, refusal_after}
-use Rattle.predicate_semantics.specs.Tested as Tested
 use Rattle.predicate_semantics.specs.Lane.{LaneState, Setup, Ended}
 use Rattle.predicate_semantics.specs.RecordRules.{Chain, Completed, Accepted, numbers_over, proper}
 use Rattle.predicate_semantics.specs.Call.{Call, program_in, setup_of, run_of}

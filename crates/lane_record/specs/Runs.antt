@@ -6,7 +6,6 @@ use Rattle.lane_word.specs.Word.{lanes}
 use Rattle.predicate_answer.specs.Refusal.{of_run, of_call, refusal_after}
 use Rattle.predicate_semantics.specs.State.{Result}
 use Rattle.predicate_semantics.specs.Tested.{Tested, passed}
-use Rattle.predicate_semantics.specs.Tested as Tested
 use Rattle.predicate_semantics.specs.Lane.{LaneState, execution}
 use Rattle.predicate_semantics.specs.Call.{Call, program_in, setup_of, run_of}
 use Rattle.predicate_semantics.specs.Outcome.{outcome_of}

@@ -1,4 +1,6 @@
 // The record of a run, for a loader that does not run the image: its writer and its reader.
+#![tactic(auto)]
+
 mod items;
 mod reader;
 mod rules;
@@ -11,7 +13,7 @@ pub use items::{EVENT, EVENT_BYTES, HEADING, HEADING_BYTES, REFUSAL_BYTES, STEP,
 use predicate_answer::{RecordAnswer, RecordOutcome};
 
 // What the reader answers: the record is read, or 15, or 14.
-#[derive(Drop)]
+#[derive(Clone, Copy)]
 pub enum ReadAnswer {
     Read,
     RulesBroken,
@@ -19,14 +21,14 @@ pub enum ReadAnswer {
 }
 
 // Where nothing is read, the outcome is a refusal numbered 0.
-#[derive(Drop)]
+#[derive(Clone, Copy)]
 pub struct RecordReading {
     pub answer: ReadAnswer,
     pub outcome: RecordOutcome,
 }
 
 // What the writer answers: how many bytes are written, or 15, or 16.
-#[derive(Drop)]
+#[derive(Clone, Copy)]
 pub enum WriteAnswer {
     Written(usize),
     RulesBroken,

@@ -21,7 +21,6 @@ use Rattle.predicate_answer.specs.Blank.{last_refusal, last_role}
 use Rattle.predicate_answer.specs.Refusal.{RunRefusal, Refusal, of_run, of_call, number_of, refusal_after}
 use Rattle.predicate_semantics.specs.State.{Result}
 use Rattle.predicate_semantics.specs.Tested.{Tested, passed}
-use Rattle.predicate_semantics.specs.Tested as Tested
 use Rattle.predicate_semantics.specs.Lane.{execution}
 use Rattle.predicate_semantics.specs.RecordRules.{proper}
 use Rattle.predicate_semantics.specs.Call.{Call, program_in, setup_of, run_of}
