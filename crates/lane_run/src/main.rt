@@ -1,23 +1,26 @@
 // Reads entry, event count address, events address and image from standard input, and writes the record of the image's run.
+#![tactic(auto)]
+
 ghost use Rattle.std.specs.Prelude.{◌≤◌, length};
 
 use lane_program::{INPUT_BYTES, Reading};
+use std::io;
+use std::io::Read;
 
-fn write(bytes: &[u8], n: usize)
+fn write(out: &impl Print, bytes: &[u8], n: usize) -> io::Result<()>
     requires { n ≤ length bytes.now }
 {
-    io::write_all(1, &bytes[..n]);
+    out.write_all(&bytes[..n])
 }
 
 // Up to the end of the input, or of the room for it.
-fn read(input: &mut [u8]) -> Reading {
+fn read<R: Read>(reader: &mut R, input: &mut [u8]) -> Reading {
     let mut done: usize = 0;
     while done < input.len() {
-        let got = libc::read(0, &mut input[done..]);
-        if got < 0 {
-            return Reading::Failed;
-        }
-        let more = io::count(got, &input[done..]);
+        let more = match reader.read(&mut input[done..]) {
+            Ok(more) => more,
+            Err(_) => return Reading::Failed,
+        };
         if more == 0 {
             break;
         }
@@ -26,10 +29,10 @@ fn read(input: &mut [u8]) -> Reading {
     Reading::Bytes(done)
 }
 
-fn main() {
+fn main(rt: HostRuntime) -> io::Result<()> {
     let mut input = [0u8; INPUT_BYTES];
-    let reading = read(&mut input);
+    let reading = read(&mut rt.stdin(), &mut input);
     let output = lane_program::answer(reading, input);
     let bytes = output.bytes;
-    write(&bytes, output.count);
+    write(&rt, &bytes, output.count)
 }

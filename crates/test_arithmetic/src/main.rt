@@ -6,15 +6,18 @@
 // eight hexadecimal digits each. An immediate stands sign-extended, as the operation takes it; a branch has the result 1
 // where it is taken. LUI has the loaded value, and the shift to the right by which its test looks at it. AUIPC has the
 // address 80000000, which its test leaves open, and the test's offset. oracle/vectors computes each result anew.
+#![tactic(auto)]
+
 ghost use Rattle.std.specs.Prelude.{◌+◌, ◌*◌, ◌<◌, ◌≤◌, length};
 
 use lane_word::LaneWord;
 use rv32_arithmetic::{Binary, value};
-use test_support::{differs, end_line, say};
+use std::io;
+use test_support::{differs, end_line, read_full, say};
 
 const LINE: usize = 34;
 
-#[derive(Drop)]
+#[derive(Clone, Copy)]
 struct Counts {
     pairs: u64,
     words: u64,
@@ -94,7 +97,7 @@ fn compare(text: &[u8], lines: usize, line: usize, name: &[u8], operation: Binar
     ensures { (result.pairs ≤ 1) × (result.words ≤ 1) × (result.lanes ≤ 1) }
 {
     let at = line * LINE;
-    if !check::same(&text[at..at + 6], name) {
+    if &text[at..at + 6] != name {
         return Counts {
             pairs: 0,
             words: 0,
@@ -136,68 +139,68 @@ fn count(text: &[u8], name: &[u8], operation: Binary) -> Counts {
     }
 }
 
-fn report(text: &[u8], name: &[u8], operation: Binary) {
+fn report(out: &impl Print, text: &[u8], name: &[u8], operation: Binary) -> io::Result<()> {
     let counts = count(text, name, operation);
-    io::write_all(1, name);
-    say(b" pairs ", counts.pairs);
-    say(b", different by words ", counts.words);
-    say(b", by lanes ", counts.lanes);
-    end_line();
+    out.write_all(name)?;
+    say(out, b" pairs ", counts.pairs)?;
+    say(out, b", different by words ", counts.words)?;
+    say(out, b", by lanes ", counts.lanes)?;
+    end_line(out)
 }
 
-fn immediates(text: &[u8]) {
-    report(text, b"lui   ", Binary::Sra);
-    report(text, b"auipc ", Binary::Add);
-    report(text, b"addi  ", Binary::Add);
-    report(text, b"slti  ", Binary::Slt);
-    report(text, b"sltiu ", Binary::Sltu);
-    report(text, b"xori  ", Binary::Xor);
-    report(text, b"ori   ", Binary::Or);
-    report(text, b"andi  ", Binary::And);
-    report(text, b"slli  ", Binary::Sll);
-    report(text, b"srli  ", Binary::Srl);
-    report(text, b"srai  ", Binary::Sra);
+fn immediates(out: &impl Print, text: &[u8]) -> io::Result<()> {
+    report(out, text, b"lui   ", Binary::Sra)?;
+    report(out, text, b"auipc ", Binary::Add)?;
+    report(out, text, b"addi  ", Binary::Add)?;
+    report(out, text, b"slti  ", Binary::Slt)?;
+    report(out, text, b"sltiu ", Binary::Sltu)?;
+    report(out, text, b"xori  ", Binary::Xor)?;
+    report(out, text, b"ori   ", Binary::Or)?;
+    report(out, text, b"andi  ", Binary::And)?;
+    report(out, text, b"slli  ", Binary::Sll)?;
+    report(out, text, b"srli  ", Binary::Srl)?;
+    report(out, text, b"srai  ", Binary::Sra)
 }
 
-fn branches(text: &[u8]) {
-    report(text, b"beq   ", Binary::Eq);
-    report(text, b"bne   ", Binary::Ne);
-    report(text, b"blt   ", Binary::Slt);
-    report(text, b"bge   ", Binary::Ge);
-    report(text, b"bltu  ", Binary::Sltu);
-    report(text, b"bgeu  ", Binary::Geu);
+fn branches(out: &impl Print, text: &[u8]) -> io::Result<()> {
+    report(out, text, b"beq   ", Binary::Eq)?;
+    report(out, text, b"bne   ", Binary::Ne)?;
+    report(out, text, b"blt   ", Binary::Slt)?;
+    report(out, text, b"bge   ", Binary::Ge)?;
+    report(out, text, b"bltu  ", Binary::Sltu)?;
+    report(out, text, b"bgeu  ", Binary::Geu)
 }
 
-fn registers(text: &[u8]) {
-    report(text, b"add   ", Binary::Add);
-    report(text, b"sub   ", Binary::Sub);
-    report(text, b"sll   ", Binary::Sll);
-    report(text, b"slt   ", Binary::Slt);
-    report(text, b"sltu  ", Binary::Sltu);
-    report(text, b"xor   ", Binary::Xor);
-    report(text, b"srl   ", Binary::Srl);
-    report(text, b"sra   ", Binary::Sra);
-    report(text, b"or    ", Binary::Or);
-    report(text, b"and   ", Binary::And);
+fn registers(out: &impl Print, text: &[u8]) -> io::Result<()> {
+    report(out, text, b"add   ", Binary::Add)?;
+    report(out, text, b"sub   ", Binary::Sub)?;
+    report(out, text, b"sll   ", Binary::Sll)?;
+    report(out, text, b"slt   ", Binary::Slt)?;
+    report(out, text, b"sltu  ", Binary::Sltu)?;
+    report(out, text, b"xor   ", Binary::Xor)?;
+    report(out, text, b"srl   ", Binary::Srl)?;
+    report(out, text, b"sra   ", Binary::Sra)?;
+    report(out, text, b"or    ", Binary::Or)?;
+    report(out, text, b"and   ", Binary::And)
 }
 
-fn products(text: &[u8]) {
-    report(text, b"mul   ", Binary::Mul);
-    report(text, b"mulh  ", Binary::Mulh);
-    report(text, b"mulhsu", Binary::Mulhsu);
-    report(text, b"mulhu ", Binary::Mulhu);
-    report(text, b"div   ", Binary::Div);
-    report(text, b"divu  ", Binary::Divu);
-    report(text, b"rem   ", Binary::Rem);
-    report(text, b"remu  ", Binary::Remu);
+fn products(out: &impl Print, text: &[u8]) -> io::Result<()> {
+    report(out, text, b"mul   ", Binary::Mul)?;
+    report(out, text, b"mulh  ", Binary::Mulh)?;
+    report(out, text, b"mulhsu", Binary::Mulhsu)?;
+    report(out, text, b"mulhu ", Binary::Mulhu)?;
+    report(out, text, b"div   ", Binary::Div)?;
+    report(out, text, b"divu  ", Binary::Divu)?;
+    report(out, text, b"rem   ", Binary::Rem)?;
+    report(out, text, b"remu  ", Binary::Remu)
 }
 
-fn main() {
-    let mut buffer = io::large_buffer();
-    let n = io::read_full(0, &mut buffer);
+fn main(rt: HostRuntime) -> io::Result<()> {
+    let mut buffer = [0u8; 65_536];
+    let n = read_full(&mut rt.stdin(), &mut buffer)?;
     let text = &buffer[..n];
-    immediates(text);
-    branches(text);
-    registers(text);
-    products(text);
+    immediates(&rt, text)?;
+    branches(&rt, text)?;
+    registers(&rt, text)?;
+    products(&rt, text)
 }

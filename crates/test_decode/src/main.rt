@@ -1,11 +1,15 @@
 // Runs `decode` on the words of the list on standard input, which oracle/words makes, and compares number and operands.
+#![tactic(auto)]
+
 ghost use Rattle.std.specs.Prelude.{◌≤◌};
 
 use riscv_decode::{BType, Decoded, IType, JType, Operation, RType, SType, ShiftType, UType};
+use std::io;
+use std::io::Read;
 use test_support::{differs, next, say};
 
 // What the list says of a word: the operation's number, 0 where the word is refused, and the operands, 0 where there is none.
-#[derive(Drop)]
+#[derive(Clone, Copy)]
 struct Entry {
     number: u32,
     rd: u32,
@@ -118,13 +122,13 @@ fn listed(decoded: Decoded) -> Entry {
     }
 }
 
-fn next_entry() -> Entry {
-    let number = next();
-    let rd = next();
-    let rs1 = next();
-    let rs2 = next();
-    let imm = next();
-    entry_of(number, rd, rs1, rs2, imm)
+fn next_entry<R: Read>(reader: &mut R) -> io::Result<Entry> {
+    let number = next(reader)?;
+    let rd = next(reader)?;
+    let rs1 = next(reader)?;
+    let rs2 = next(reader)?;
+    let imm = next(reader)?;
+    Ok(entry_of(number, rd, rs1, rs2, imm))
 }
 
 // 1 where two entries differ, else 0.
@@ -137,23 +141,22 @@ fn entries_differ(a: Entry, b: Entry) -> u64
     1
 }
 
-fn report(decoded: u64, refused: u64, differing: u64) {
-    io::print_decimal(1, decoded);
-    say(b" words decoded, ", refused);
-    say(b" refused, ", differing);
-    io::write_all(1, b" differ from the list\n");
+fn report(out: &impl Print, decoded: u64, refused: u64, differing: u64) -> io::Result<()> {
+    out.print(decoded)?;
+    say(out, b" words decoded, ", refused)?;
+    say(out, b" refused, ", differing)?;
+    out.write_all(b" differ from the list\n")
 }
 
-fn main() {
-    let words = next();
+fn main(rt: HostRuntime) -> io::Result<()> {
+    let mut reader = rt.stdin();
+    let words = next(&mut reader)?;
     let mut decoded: u64 = 0;
     let mut differing: u64 = 0;
-    let mut i: u32 = 0;
-    while i < words {
-        let found = listed(riscv_decode::decode(next()));
+    for _ in 0..words {
+        let found = listed(riscv_decode::decode(next(&mut reader)?));
         decoded += differs(found.number, 0);
-        differing += entries_differ(found, next_entry());
-        i += 1;
+        differing += entries_differ(found, next_entry(&mut reader)?);
     }
-    report(decoded, words as u64 - decoded, differing);
+    report(&rt, decoded, words as u64 - decoded, differing)
 }

@@ -1,5 +1,9 @@
 // Runs `decompress` on every halfword and compares with the list on standard input, which oracle/expansion makes.
+#![tactic(auto)]
+
 use riscv32imc::Expanded;
+use std::io;
+use std::io::Read;
 use test_support::{next, say};
 
 // How many halfwords there are.
@@ -14,44 +18,50 @@ fn listed(expanded: Expanded) -> u32 {
 }
 
 // What the list has of a halfword.
-#[derive(Drop)]
+#[derive(Clone, Copy)]
 struct Entry {
     word: u32,
     by_assembler: bool,
 }
 
 // Where the Rust refuses and the assembler does not, 1 comes before the word; 1 is no expansion.
-fn next_entry() -> Entry {
-    let number = next();
+fn next_entry<R: Read>(reader: &mut R) -> io::Result<Entry> {
+    let number = next(reader)?;
     if number == 1 {
-        return Entry {
-            word: next(),
+        return Ok(Entry {
+            word: next(reader)?,
             by_assembler: true,
-        };
+        });
     }
-    Entry {
+    Ok(Entry {
         word: number,
         by_assembler: false,
-    }
+    })
 }
 
-fn report(by_rust: u64, by_assembler: u64, refused: u64, differing: u64) {
-    io::print_decimal(1, by_rust);
-    say(b" halfwords expand as in the Rust, ", by_assembler);
-    say(b" as in the GNU assembler, ", refused);
-    say(b" are refused, ", differing);
-    io::write_all(1, b" differ from the list\n");
+fn report(
+    out: &impl Print,
+    by_rust: u64,
+    by_assembler: u64,
+    refused: u64,
+    differing: u64,
+) -> io::Result<()> {
+    out.print(by_rust)?;
+    say(out, b" halfwords expand as in the Rust, ", by_assembler)?;
+    say(out, b" as in the GNU assembler, ", refused)?;
+    say(out, b" are refused, ", differing)?;
+    out.write_all(b" differ from the list\n")
 }
 
-fn main() {
+fn main(rt: HostRuntime) -> io::Result<()> {
+    let mut reader = rt.stdin();
     let mut by_rust: u64 = 0;
     let mut by_assembler: u64 = 0;
     let mut refused: u64 = 0;
     let mut differing: u64 = 0;
-    let mut raw: u32 = 0;
-    while raw < HALFWORDS {
+    for raw in 0..HALFWORDS {
         let word = listed(riscv32imc::decompress(raw as u16));
-        let entry = next_entry();
+        let entry = next_entry(&mut reader)?;
         if word != entry.word {
             differing += 1;
         } else if word == 0 {
@@ -61,7 +71,6 @@ fn main() {
         } else {
             by_rust += 1;
         }
-        raw += 1;
     }
-    report(by_rust, by_assembler, refused, differing);
+    report(&rt, by_rust, by_assembler, refused, differing)
 }

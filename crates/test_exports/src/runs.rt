@@ -6,6 +6,8 @@ use lane_library::RunAnswer;
 use lane_record::WriteAnswer;
 use lane_word::InputRange;
 use predicate_semantics::{Rv32Program, Rv32SymbolLayout};
+use std::io;
+use std::io::Read;
 use test_support::{fill, next, next_bytes, next_size, say_next};
 
 // A byte more than the largest image.
@@ -18,47 +20,48 @@ const TRACE_BYTES: usize = 1_000;
 const OUTPUT_BYTES: usize = 1_000;
 
 // Which function is called, and the numbers that it is given.
-#[derive(Drop)]
+#[derive(Clone, Copy)]
 struct Call {
     function: u32,
     symbols: Rv32SymbolLayout,
     range: InputRange,
 }
 
-fn next_symbols() -> Rv32SymbolLayout {
-    let entry = next();
-    let event_count = next();
-    let events = next();
-    Rv32SymbolLayout {
+fn next_symbols<R: Read>(reader: &mut R) -> io::Result<Rv32SymbolLayout> {
+    let entry = next(reader)?;
+    let event_count = next(reader)?;
+    let events = next(reader)?;
+    Ok(Rv32SymbolLayout {
         entry,
         event_count,
         events,
-    }
+    })
 }
 
-fn next_input() -> u8 {
-    (next() % 256) as u8
+fn next_input<R: Read>(reader: &mut R) -> io::Result<u8> {
+    Ok((next(reader)? % 256) as u8)
 }
 
-fn next_call() -> Call {
-    let function = next();
-    let symbols = next_symbols();
-    let first = next_input();
-    let last = next_input();
+fn next_call<R: Read>(reader: &mut R) -> io::Result<Call> {
+    let function = next(reader)?;
+    let symbols = next_symbols(reader)?;
+    let first = next_input(reader)?;
+    let last = next_input(reader)?;
     let range = InputRange { first, last };
-    Call {
+    Ok(Call {
         function,
         symbols,
         range,
-    }
+    })
 }
 
 // Zeros, with bytes at the start and bytes at a place that the list names.
-fn next_image(image: &mut [u8]) {
+fn next_image<R: Read>(reader: &mut R, image: &mut [u8]) -> io::Result<()> {
     fill(image, 0);
-    next_bytes(image);
-    let at = next_size(image.len());
-    next_bytes(&mut image[at..]);
+    next_bytes(reader, image)?;
+    let at = next_size(reader, image.len())?;
+    next_bytes(reader, &mut image[at..])?;
+    Ok(())
 }
 
 // The writer's answer as document 01's number; a refusal has no count.
@@ -163,45 +166,74 @@ fn prepare(rows: &mut [u8], trace: &mut [u8], output: &mut [u8]) {
     fill(output, OUTPUT_BEFORE);
 }
 
-fn say_lent(rows: &[u8], trace: &[u8], output: &[u8]) {
-    say_bytes(b"  rows", rows);
-    say_bytes(b"  trace", trace);
-    say_bytes(b"  output", output);
+fn say_lent(out: &impl Print, rows: &[u8], trace: &[u8], output: &[u8]) -> io::Result<()> {
+    say_bytes(out, b"  rows", rows)?;
+    say_bytes(out, b"  trace", trace)?;
+    say_bytes(out, b"  output", output)
 }
 
-fn run_lent(call: Call, image: &[u8], rows: &mut [u8], trace: &mut [u8], output: &mut [u8]) {
+fn run_lent(
+    out: &impl Print,
+    call: Call,
+    image: &[u8],
+    rows: &mut [u8],
+    trace: &mut [u8],
+    output: &mut [u8],
+) -> io::Result<()> {
     let mut written: u64 = WRITTEN_BEFORE;
     prepare(rows, trace, output);
     let answer = answer_of(call, image, rows, trace, output, &mut written);
-    say_answer(b": ", answer, written);
-    say_lent(rows, trace, output);
+    say_answer(out, b": ", answer, written)?;
+    say_lent(out, rows, trace, output)
 }
 
 // The next case: name, function, symbols, range, the bytes that are lent, the image's, and what it holds. `image` is the whole input for
 // lane_run.
-fn next_run(image: &mut [u8], rows: &mut [u8], trace: &mut [u8], output: &mut [u8]) {
-    say_next();
-    let call = next_call();
-    let rows = next_part(rows);
-    let trace = next_part(trace);
-    let output = next_part(output);
-    let image = next_part(image);
-    next_image(image);
-    run_lent(call, image, rows, trace, output);
+fn next_run<R: Read>(
+    out: &impl Print,
+    reader: &mut R,
+    image: &mut [u8],
+    rows: &mut [u8],
+    trace: &mut [u8],
+    output: &mut [u8],
+) -> io::Result<()> {
+    say_next(out, reader)?;
+    let call = next_call(reader)?;
+    let rows = next_part(reader, rows)?;
+    let trace = next_part(reader, trace)?;
+    let output = next_part(reader, output)?;
+    let image = next_part(reader, image)?;
+    next_image(reader, image)?;
+    run_lent(out, call, image, rows, trace, output)
 }
 
-fn runs_in(count: u32, image: &mut [u8], rows: &mut [u8], trace: &mut [u8], output: &mut [u8]) {
-    let mut k: u32 = 0;
-    while k < count {
-        next_run(image, rows, trace, output);
-        k += 1;
+fn runs_in<R: Read>(
+    out: &impl Print,
+    reader: &mut R,
+    count: u32,
+    image: &mut [u8],
+    rows: &mut [u8],
+    trace: &mut [u8],
+    output: &mut [u8],
+) -> io::Result<()> {
+    for _ in 0..count {
+        next_run(out, reader, image, rows, trace, output)?;
     }
+    Ok(())
 }
 
-pub fn runs(count: u32) {
+pub fn runs<R: Read>(out: &impl Print, reader: &mut R, count: u32) -> io::Result<()> {
     let mut image = [0u8; IMAGE_BYTES];
     let mut rows = [0u8; ROWS_BYTES];
     let mut trace = [0u8; TRACE_BYTES];
     let mut output = [0u8; OUTPUT_BYTES];
-    runs_in(count, &mut image, &mut rows, &mut trace, &mut output);
+    runs_in(
+        out,
+        reader,
+        count,
+        &mut image,
+        &mut rows,
+        &mut trace,
+        &mut output,
+    )
 }

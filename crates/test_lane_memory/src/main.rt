@@ -1,11 +1,14 @@
 // Fills lent memory to its last row, in three orders, overwrites, reads back and clears it, stores words, and values that all lanes share,
 // and does the same to memory that has no row. Prints how many answers, lanes and bytes differ from what they must be.
+#![tactic(auto)]
+
 ghost use Rattle.std.specs.Prelude.{◌≡◌, ◌+◌, ◌*◌, ◌%◌, ◌^◌, ◌<◌, ◌≤◌, length};
 ghost use Rattle.lane_word.specs.Word.{lanes};
 
 use lane_memory::Found;
 use lane_word::{LaneWord, Told};
 use rv32_arithmetic::Binary;
+use std::io;
 
 // What lent memory holds before a case, and its remainder after it.
 const BEFORE: u32 = 0xa5;
@@ -15,7 +18,7 @@ const OTHER: u8 = 7;
 const LANES_TELL: u32 = 1000;
 
 // How many answers, lanes and bytes were compared, and how many differ.
-#[derive(Drop)]
+#[derive(Clone, Copy)]
 struct Tally {
     compared: u64,
     differing: u64,
@@ -32,7 +35,7 @@ impl Tally {
     }
 }
 
-#[derive(Drop)]
+#[derive(Clone, Copy)]
 struct Store {
     address: u32,
     width: u32,
@@ -86,7 +89,7 @@ const STORES: [Store; 7] = [
     },
 ];
 
-#[derive(Drop)]
+#[derive(Clone, Copy)]
 enum Order {
     Rising,
     Falling,
@@ -292,20 +295,20 @@ fn case(rows: &mut [u8], order: Order, count: u32) -> Tally {
     before.and(filled).and(bytes(rows, end))
 }
 
-fn print(name: &[u8], tally: Tally) {
-    io::write_all(1, name);
-    io::write_all(1, b" compared: ");
-    io::print_decimal(1, tally.compared);
-    io::write_all(1, b" differing: ");
-    io::print_decimal(1, tally.differing);
-    io::write_all(1, b"\n");
+fn print(out: &impl Print, name: &[u8], tally: Tally) -> io::Result<()> {
+    out.write_all(name)?;
+    out.write_all(b" compared: ")?;
+    out.print(tally.compared)?;
+    out.write_all(b" differing: ")?;
+    out.print(tally.differing)?;
+    out.write_all(b"\n")
 }
 
-fn orders(name: &[u8], rows: &mut [u8], count: u32) {
+fn orders(out: &impl Print, name: &[u8], rows: &mut [u8], count: u32) -> io::Result<()> {
     let rising = case(rows, Order::Rising, count);
     let falling = case(rows, Order::Falling, count);
     let scattered = case(rows, Order::Scattered, count);
-    print(name, rising.and(falling).and(scattered));
+    print(out, name, rising.and(falling).and(scattered))
 }
 
 // The bytes of a stored word against what is loaded.
@@ -518,9 +521,9 @@ fn uniform(rows: &mut [u8]) -> Tally {
         .and(taken(rows))
 }
 
-fn stores(rows: &mut [u8]) {
-    print(b"words", words(rows));
-    print(b"uniform", uniform(rows));
+fn stores(out: &impl Print, rows: &mut [u8]) -> io::Result<()> {
+    print(out, b"words", words(rows))?;
+    print(out, b"uniform", uniform(rows))
 }
 
 // 5,000 rows and a remainder.
@@ -528,23 +531,23 @@ fn lent() -> [u8; 1320263] {
     [0xa5; 1320263]
 }
 
-fn part(name: &[u8], memory: &mut [u8], end: usize, count: u32)
+fn part(out: &impl Print, name: &[u8], memory: &mut [u8], end: usize, count: u32) -> io::Result<()>
     requires { end ≤ length memory.old }
 {
-    orders(name, &mut memory[..end], count);
+    orders(out, name, &mut memory[..end], count)
 }
 
-fn all(memory: &mut [u8])
+fn all(out: &impl Print, memory: &mut [u8]) -> io::Result<()>
     requires { 53063 ≤ length memory.old }
 {
-    print(b"without a row", no_rows(memory));
-    part(b"4 rows", memory, 1319, 4);
-    part(b"200 rows", memory, 53063, 200);
-    orders(b"5000 rows", memory, 5000);
-    stores(memory);
+    print(out, b"without a row", no_rows(memory))?;
+    part(out, b"4 rows", memory, 1319, 4)?;
+    part(out, b"200 rows", memory, 53063, 200)?;
+    orders(out, b"5000 rows", memory, 5000)?;
+    stores(out, memory)
 }
 
-fn main() {
+fn main(rt: HostRuntime) -> io::Result<()> {
     let mut memory = lent();
-    all(&mut memory);
+    all(&rt, &mut memory)
 }

@@ -1,5 +1,7 @@
 // Runs the record's reader and writer on document 01's record, on records that break one rule each, on records of other ranges, and on
 // lent memory of every length around the border, and prints what they answer: 0 for done, else document 01's number.
+#![tactic(auto)]
+
 ghost use Rattle.std.specs.Prelude.{◌+◌, ◌≤◌};
 
 use lane_record::{ReadAnswer, WriteAnswer};
@@ -7,6 +9,7 @@ use little_endian::{get_u8, get_u16, get_u32, put_u8, put_u16, put_u32};
 use predicate_answer::{
     CompiledMmioEvent, PredicateTransducerExecution, RecordAnswer, RecordOutcome, RecordRefusal,
 };
+use std::io;
 use test_support::{end_line, say, unlike};
 
 // Document 01's record, 49 bytes, and a byte more.
@@ -21,7 +24,7 @@ const EXAMPLE: [u8; 50] = [
 const REFUSED: [u8; 7] = [0x7F, 0x05, 0x00, 0x02, 0x00, 0x00, 0x00];
 
 // A number of a record changed: its place, whether it has four bytes and not one, and what it becomes.
-#[derive(Drop)]
+#[derive(Clone, Copy)]
 struct Edit(usize, bool, u32);
 
 // Of document 01's record; each of the first twelve breaks a rule, the others none.
@@ -75,7 +78,7 @@ const REFUSAL_EDITS: [Edit; 13] = [
 ];
 
 // First input, lanes, steps and lane operations, in document 01's record; without steps it ends with its heading.
-#[derive(Drop)]
+#[derive(Clone, Copy)]
 struct Heading(u8, u16, u32, u32);
 
 // Each of the first 17 breaks a rule, the others none.
@@ -120,7 +123,7 @@ const HEADINGS: [Heading; 28] = [
 const NO_STEPS: Heading = Heading(7, 1, 0, 0);
 
 // What a series of answers goes over: edits, first bytes or headings of a record, or lengths of what is lent.
-#[derive(Drop)]
+#[derive(Clone, Copy)]
 enum Series {
     EditRead,
     EditWritten,
@@ -141,12 +144,12 @@ enum Series {
     NoStepsOutput,
 }
 
-fn tell(n: u64) {
-    say(b" ", n);
+fn tell(out: &impl Print, n: u64) -> io::Result<()> {
+    say(out, b" ", n)
 }
 
-fn tell_byte(b: u8) {
-    tell(b as u64);
+fn tell_byte(out: &impl Print, b: u8) -> io::Result<()> {
+    tell(out, b as u64)
 }
 
 fn read_number(answer: ReadAnswer) -> u64 {
@@ -360,14 +363,12 @@ fn answer(series: Series, k: usize) -> u64 {
     }
 }
 
-fn answers(name: &[u8], series: Series, count: usize) {
-    io::write_all(1, name);
-    let mut k: usize = 0;
-    while k < count {
-        tell(answer(series, k));
-        k += 1;
+fn answers(out: &impl Print, name: &[u8], series: Series, count: usize) -> io::Result<()> {
+    out.write_all(name)?;
+    for k in 0..count {
+        tell(out, answer(series, k))?;
     }
-    end_line();
+    end_line(out)
 }
 
 // How many of the 256 first bytes make a record.
@@ -383,39 +384,42 @@ fn taken(series: Series) -> u64 {
     taken
 }
 
-fn compare(written: WriteAnswer, output: &[u8], bytes: &[u8]) {
+fn compare(out: &impl Print, written: WriteAnswer, output: &[u8], bytes: &[u8]) -> io::Result<()> {
     if let WriteAnswer::Written(n) = written {
-        tell(n as u64);
+        tell(out, n as u64)?;
         if n < output.len() {
-            tell(check::same(&output[..n], bytes) as u64);
-            tell_byte(output[n]);
+            tell(out, (&output[..n] == bytes) as u64)?;
+            tell_byte(out, output[n])?;
         }
     }
+    Ok(())
 }
 
 // Reads bytes and writes what was read, and prints the reader's answer, how many bytes were written, 1 if they are the same,
 // the byte after them, which was 85, and how many bytes after the steps' entries are not 170 as before.
-fn round_trip(bytes: &[u8]) {
+fn round_trip(out: &impl Print, bytes: &[u8]) -> io::Result<()> {
     let mut trace = [170u8; 39];
     let mut output = [85u8; 640];
     let reading = lane_record::read_record(bytes, &mut trace);
     let read = reading.answer;
     let outcome = reading.outcome;
     let steps = outcome.execution.symbolic_transitions as usize;
-    tell(read_number(read));
+    tell(out, read_number(read))?;
     compare(
+        out,
         lane_record::write_record(outcome, &trace, &mut output),
         &output,
         bytes,
-    );
-    tell(unlike(&trace, steps * 13, 39, 170));
-    end_line();
+    )?;
+    tell(out, unlike(&trace, steps * 13, 39, 170))?;
+    end_line(out)
 }
 
-fn round_trip_first(bytes: &[u8], n: usize) {
+fn round_trip_first(out: &impl Print, bytes: &[u8], n: usize) -> io::Result<()> {
     if n <= bytes.len() {
-        round_trip(&bytes[..n]);
+        round_trip(out, &bytes[..n])?;
     }
+    Ok(())
 }
 
 fn put_events(bytes: &mut [u8], n: u8) {
@@ -430,97 +434,108 @@ fn put_events(bytes: &mut [u8], n: u8) {
 }
 
 // Document 01's record with n events put into it.
-fn with_events(n: u8) {
+fn with_events(out: &impl Print, n: u8) -> io::Result<()> {
     let mut bytes = [0u8; 640];
     let steps = 21 + (n as usize) * 17;
     copy(&mut bytes, 0, &EXAMPLE, 0, 21);
     put_u8(&mut bytes, 20, n);
     put_events(&mut bytes, n);
     copy(&mut bytes, steps, &EXAMPLE, 21, 28);
-    tell(n as u64);
-    round_trip_first(&bytes, steps + 28);
+    tell(out, n as u64)?;
+    round_trip_first(out, &bytes, steps + 28)
 }
 
 // Document 01's record with another heading.
-fn with_heading(heading: Heading) {
+fn with_heading(out: &impl Print, heading: Heading) -> io::Result<()> {
     let mut bytes = EXAMPLE;
     put_heading(&mut bytes, heading);
-    io::write_all(1, b"first input, lanes and steps:");
-    tell_byte(heading.0);
-    tell(heading.1 as u64);
-    tell(heading.2 as u64);
-    io::write_all(1, b":");
-    round_trip_first(&bytes, record_bytes(heading));
+    out.write_all(b"first input, lanes and steps:")?;
+    tell_byte(out, heading.0)?;
+    tell(out, heading.1 as u64)?;
+    tell(out, heading.2 as u64)?;
+    out.write_all(b":")?;
+    round_trip_first(out, &bytes, record_bytes(heading))
 }
 
-fn edits() {
-    answers(b"edited, read:", Series::EditRead, 18);
-    answers(b"edited, written:", Series::EditWritten, 18);
+fn edits(out: &impl Print) -> io::Result<()> {
+    answers(out, b"edited, read:", Series::EditRead, 18)?;
+    answers(out, b"edited, written:", Series::EditWritten, 18)?;
     answers(
+        out,
         b"edited, written with no output:",
         Series::EditWithoutOutput,
         18,
-    );
-    answers(b"edited refusal, read:", Series::RefusalRead, 13);
-    answers(b"edited refusal, written:", Series::RefusalWritten, 13);
+    )?;
+    answers(out, b"edited refusal, read:", Series::RefusalRead, 13)?;
+    answers(out, b"edited refusal, written:", Series::RefusalWritten, 13)?;
     answers(
+        out,
         b"edited refusal, written with an output a byte short:",
         Series::RefusalShort,
         13,
-    );
+    )
 }
 
-fn headings() {
-    answers(b"other headings, read:", Series::HeadingRead, 28);
-    answers(b"other headings, written:", Series::HeadingWritten, 28);
+fn headings(out: &impl Print) -> io::Result<()> {
+    answers(out, b"other headings, read:", Series::HeadingRead, 28)?;
+    answers(out, b"other headings, written:", Series::HeadingWritten, 28)?;
     answers(
+        out,
         b"other headings, written with no output:",
         Series::HeadingWithoutOutput,
         28,
-    );
-    with_heading(Heading(0, 256, 2, 512));
-    with_heading(Heading(12, 244, 2, 488));
-    with_heading(Heading(255, 1, 2, 2));
-    with_heading(NO_STEPS);
+    )?;
+    with_heading(out, Heading(0, 256, 2, 512))?;
+    with_heading(out, Heading(12, 244, 2, 488))?;
+    with_heading(out, Heading(255, 1, 2, 2))?;
+    with_heading(out, NO_STEPS)
 }
 
-fn lengths() {
-    answers(b"bytes read, from 0 on:", Series::Bytes, 51);
-    answers(b"trace lent to the reader, from 0 on:", Series::Trace, 40);
+fn lengths(out: &impl Print) -> io::Result<()> {
+    answers(out, b"bytes read, from 0 on:", Series::Bytes, 51)?;
     answers(
+        out,
+        b"trace lent to the reader, from 0 on:",
+        Series::Trace,
+        40,
+    )?;
+    answers(
+        out,
         b"trace lent to the writer, from 0 on:",
         Series::TraceWritten,
         27,
-    );
-    answers(b"output lent, from 0 on:", Series::Output, 61);
+    )?;
+    answers(out, b"output lent, from 0 on:", Series::Output, 61)?;
     answers(
+        out,
         b"bytes read of a record without steps, from 0 on:",
         Series::NoStepsBytes,
         23,
-    );
+    )?;
     answers(
+        out,
         b"output lent to a record without steps, from 0 on:",
         Series::NoStepsOutput,
         23,
-    );
+    )
 }
 
-fn first_bytes() {
-    io::write_all(1, b"first bytes taken:");
-    tell(taken(Series::Kind));
-    tell(taken(Series::RefusalKind));
-    end_line();
+fn first_bytes(out: &impl Print) -> io::Result<()> {
+    out.write_all(b"first bytes taken:")?;
+    tell(out, taken(Series::Kind))?;
+    tell(out, taken(Series::RefusalKind))?;
+    end_line(out)
 }
 
-fn main() {
-    io::write_all(1, b"document 01:");
-    round_trip_first(&EXAMPLE, 49);
-    edits();
-    headings();
-    lengths();
-    first_bytes();
-    io::write_all(1, b"events:");
-    with_events(32);
-    io::write_all(1, b"events:");
-    with_events(33);
+fn main(rt: HostRuntime) -> io::Result<()> {
+    rt.write_all(b"document 01:")?;
+    round_trip_first(&rt, &EXAMPLE, 49)?;
+    edits(&rt)?;
+    headings(&rt)?;
+    lengths(&rt)?;
+    first_bytes(&rt)?;
+    rt.write_all(b"events:")?;
+    with_events(&rt, 32)?;
+    rt.write_all(b"events:")?;
+    with_events(&rt, 33)
 }

@@ -5,6 +5,8 @@
 // 1,000,000 trace entries take 13 MB, which a stack of 8 MB cannot lend, and memory comes from nowhere else. So loops of 500,000 steps
 // stand in for the bound on steps: past them the entries end the run, not the bound. A second list on standard input has the edges of
 // the bound, and needs a stack of 32 MB.
+#![tactic(auto)]
+
 use lane_word::InputRange;
 use little_endian::{get_u8, get_u32};
 use predicate_answer::{
@@ -13,6 +15,8 @@ use predicate_answer::{
 use predicate_semantics::{Rv32Program, Rv32SymbolLayout};
 use predicate_trace::ENTRY_BYTES;
 use riscv32imc_predicate::PredicateRun;
+use std::io;
+use std::io::Read;
 use test_support::{end_line, fill, next, next_bytes, next_size, say, say_next, say_word, unlike};
 
 // What lent memory holds before a run.
@@ -27,61 +31,64 @@ const ROWS_BYTES: usize = 106_663;
 // 500,000 entries, and a remainder.
 const TRACE_BYTES: usize = 6_500_005;
 
-fn say_event(event: CompiledMmioEvent) {
-    say_word(b"  event ", event.operation);
-    say_word(b" ", event.offset);
-    say_word(b" ", event.value);
-    say_word(b" ", event.location);
-    end_line();
+fn say_event(out: &impl Print, event: CompiledMmioEvent) -> io::Result<()> {
+    say_word(out, b"  event ", event.operation)?;
+    say_word(out, b" ", event.offset)?;
+    say_word(out, b" ", event.value)?;
+    say_word(out, b" ", event.location)?;
+    end_line(out)
 }
 
-fn say_events(events: [CompiledMmioEvent; 32], count: u8) {
-    let mut k: u8 = 0;
-    while k < 32 {
+fn say_events(out: &impl Print, events: [CompiledMmioEvent; 32], count: u8) -> io::Result<()> {
+    for k in 0..32u8 {
         if k < count {
-            say_event(events[k as usize]);
+            say_event(out, events[k as usize])?;
         }
-        k += 1;
     }
+    Ok(())
 }
 
-fn say_execution(execution: PredicateTransducerExecution) {
-    say_word(b", returns ", execution.return_value);
-    say(b", written ", execution.sparse_memory_bytes as u64);
-    say(b", events ", execution.event_count as u64);
-    say(b", from input ", execution.first_input as u64);
-    say(b", lanes ", execution.lane_count as u64);
-    say(b", operations ", execution.lane_value_operations as u64);
+fn say_execution(out: &impl Print, execution: PredicateTransducerExecution) -> io::Result<()> {
+    say_word(out, b", returns ", execution.return_value)?;
+    say(out, b", written ", execution.sparse_memory_bytes as u64)?;
+    say(out, b", events ", execution.event_count as u64)?;
+    say(out, b", from input ", execution.first_input as u64)?;
+    say(out, b", lanes ", execution.lane_count as u64)?;
+    say(
+        out,
+        b", operations ",
+        execution.lane_value_operations as u64,
+    )
 }
 
 // Number, role and steps; after an accepted run its answer.
-fn say_outcome(outcome: RecordOutcome) {
+fn say_outcome(out: &impl Print, outcome: RecordOutcome) -> io::Result<()> {
     let answer = outcome.answer;
     let execution = outcome.execution;
     match answer {
         RecordAnswer::Refused(refusal) => {
-            say(b": ", refusal.number as u64);
-            say(b" ", refusal.role as u64);
-            say(b" ", refusal.steps as u64);
+            say(out, b": ", refusal.number as u64)?;
+            say(out, b" ", refusal.role as u64)?;
+            say(out, b" ", refusal.steps as u64)
         }
         RecordAnswer::Accepted => {
-            say(b": 0 0 ", execution.symbolic_transitions as u64);
-            say_execution(execution);
+            say(out, b": 0 0 ", execution.symbolic_transitions as u64)?;
+            say_execution(out, execution)
         }
     }
 }
 
 // A refused call has a number alone.
-fn say_answer(run: PredicateRun) {
+fn say_answer(out: &impl Print, run: PredicateRun) -> io::Result<()> {
     let verdict = run.verdict;
     let outcome = run.outcome;
     match verdict {
         CallVerdict::Refused(error) => {
-            say(b": ", error.number() as u64);
-            say(b" ", 0);
-            say(b" ", 0);
+            say(out, b": ", error.number() as u64)?;
+            say(out, b" ", 0)?;
+            say(out, b" ", 0)
         }
-        CallVerdict::Passed => say_outcome(outcome),
+        CallVerdict::Passed => say_outcome(out, outcome),
     }
 }
 
@@ -95,14 +102,15 @@ fn steps_of(outcome: RecordOutcome) -> u32 {
 }
 
 // The entry of the last completed step.
-fn say_last(trace: &[u8], steps: u32) {
+fn say_last(out: &impl Print, trace: &[u8], steps: u32) -> io::Result<()> {
     if 0 < steps {
         let at = ((steps - 1) as usize) * ENTRY_BYTES;
-        say_word(b", last ", get_u32(trace, at));
-        say_word(b" ", get_u32(trace, at + 4));
-        say(b" ", get_u8(trace, at + 8) as u64);
-        say_word(b" ", get_u32(trace, at + 9));
+        say_word(out, b", last ", get_u32(trace, at))?;
+        say_word(out, b" ", get_u32(trace, at + 4))?;
+        say(out, b" ", get_u8(trace, at + 8) as u64)?;
+        say_word(out, b" ", get_u32(trace, at + 9))?;
     }
+    Ok(())
 }
 
 // Whole rows are zero after a run; their remainder and what lies past the completed steps' entries are as before.
@@ -115,12 +123,13 @@ fn unlike_after(rows: &[u8], trace: &[u8], steps: u32) -> u64 {
 }
 
 fn run_lent(
+    out: &impl Print,
     image: &[u8],
     program: Rv32Program,
     range: InputRange,
     rows: &mut [u8],
     trace: &mut [u8],
-) {
+) -> io::Result<()> {
     fill(rows, BEFORE);
     fill(trace, BEFORE);
     let run = riscv32imc_predicate::execute_predicate(image, program, range, rows, trace);
@@ -128,91 +137,106 @@ fn run_lent(
     let events = outcome.events;
     let execution = outcome.execution;
     let steps = steps_of(outcome);
-    say_answer(run);
-    say_last(trace, steps);
-    say(b", unlike ", unlike_after(rows, trace, steps));
-    end_line();
-    say_events(events, execution.event_count);
+    say_answer(out, run)?;
+    say_last(out, trace, steps)?;
+    say(out, b", unlike ", unlike_after(rows, trace, steps))?;
+    end_line(out)?;
+    say_events(out, events, execution.event_count)
 }
 
-fn next_symbols() -> Rv32SymbolLayout {
-    let entry = next();
-    let event_count = next();
-    let events = next();
-    Rv32SymbolLayout {
+fn next_symbols<R: Read>(reader: &mut R) -> io::Result<Rv32SymbolLayout> {
+    let entry = next(reader)?;
+    let event_count = next(reader)?;
+    let events = next(reader)?;
+    Ok(Rv32SymbolLayout {
         entry,
         event_count,
         events,
-    }
+    })
 }
 
-fn next_input() -> u8 {
-    (next() % 256) as u8
+fn next_input<R: Read>(reader: &mut R) -> io::Result<u8> {
+    Ok((next(reader)? % 256) as u8)
 }
 
-fn next_range() -> InputRange {
-    let first = next_input();
-    let last = next_input();
-    InputRange { first, last }
+fn next_range<R: Read>(reader: &mut R) -> io::Result<InputRange> {
+    let first = next_input(reader)?;
+    let last = next_input(reader)?;
+    Ok(InputRange { first, last })
 }
 
 // The next case: name, symbols, inputs, the sizes of image, rows and trace, and the bytes that the image begins with; the others are 0.
-fn next_case(image: &mut [u8], rows: &mut [u8], trace: &mut [u8]) {
-    say_next();
-    let symbols = next_symbols();
+fn next_case<R: Read>(
+    out: &impl Print,
+    reader: &mut R,
+    image: &mut [u8],
+    rows: &mut [u8],
+    trace: &mut [u8],
+) -> io::Result<()> {
+    say_next(out, reader)?;
+    let symbols = next_symbols(reader)?;
     let program = Rv32Program { symbols };
-    let range = next_range();
-    let size = next_size(image.len());
-    let rows_size = next_size(rows.len());
-    let trace_size = next_size(trace.len());
+    let range = next_range(reader)?;
+    let size = next_size(reader, image.len())?;
+    let rows_size = next_size(reader, rows.len())?;
+    let trace_size = next_size(reader, trace.len())?;
     fill(image, 0);
-    next_bytes(image);
+    next_bytes(reader, image)?;
     run_lent(
+        out,
         &image[..size],
         program,
         range,
         &mut rows[..rows_size],
         &mut trace[..trace_size],
-    );
+    )
 }
 
-fn cases(count: u32, image: &mut [u8], rows: &mut [u8], trace: &mut [u8]) {
-    let mut k: u32 = 0;
-    while k < count {
-        next_case(image, rows, trace);
-        k += 1;
+fn cases<R: Read>(
+    out: &impl Print,
+    reader: &mut R,
+    count: u32,
+    image: &mut [u8],
+    rows: &mut [u8],
+    trace: &mut [u8],
+) -> io::Result<()> {
+    for _ in 0..count {
+        next_case(out, reader, image, rows, trace)?;
     }
+    Ok(())
 }
 
-fn usual_cases(count: u32) {
+fn usual_cases<R: Read>(out: &impl Print, reader: &mut R, count: u32) -> io::Result<()> {
     let mut image = [0u8; IMAGE_BYTES];
     let mut rows = [BEFORE; ROWS_BYTES];
     let mut trace = [BEFORE; TRACE_BYTES];
-    cases(count, &mut image, &mut rows, &mut trace);
+    cases(out, reader, count, &mut image, &mut rows, &mut trace)
 }
 
 // A case with as many entries as a run may have steps, and a remainder.
-fn bound_case() {
+fn bound_case<R: Read>(out: &impl Print, reader: &mut R) -> io::Result<()> {
     let mut image = [0u8; 64];
     let mut rows = [BEFORE; ROWS_BYTES];
     let mut trace = [BEFORE; 13_000_005];
-    next_case(&mut image, &mut rows, &mut trace);
+    next_case(out, reader, &mut image, &mut rows, &mut trace)
 }
 
 // The edges of the bound. Since it calls itself, and not last, the compiler does not make these 13 MB part of the frame of `main`.
-fn bound_cases(left: u32) {
+fn bound_cases<R: Read>(out: &impl Print, reader: &mut R, left: u32) -> io::Result<()> {
     if left == 0 {
-        bound_case();
-        return;
+        return bound_case(out, reader);
     }
-    bound_cases(left - 1);
-    bound_case();
+    bound_cases(out, reader, left - 1)?;
+    bound_case(out, reader)
 }
 
-fn main() {
-    usual_cases(next());
-    let more = next();
+fn main(rt: HostRuntime) -> io::Result<()> {
+    let mut reader = rt.stdin();
+    let count = next(&mut reader)?;
+    usual_cases(&rt, &mut reader, count)?;
+    let more = next(&mut reader)?;
     if 0 < more {
-        bound_cases(more - 1);
+        bound_cases(&rt, &mut reader, more - 1)?;
     }
+    Ok(())
 }

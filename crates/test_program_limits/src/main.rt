@@ -1,8 +1,11 @@
 // Runs the program's function on inputs at its limits and one past them, and prints the first item of each one's record.
+#![tactic(auto)]
+
 ghost use Rattle.std.specs.Prelude.{◌≤◌};
 
 use lane_program::INPUT_BYTES;
 use little_endian::put_u32;
+use std::io;
 use test_support::say_record;
 
 // addi x0, x0, 0
@@ -16,11 +19,11 @@ const ONE: u32 = 0x0010_0513;
 
 const RETURN: u32 = 0x0000_8067;
 
-fn run(name: &[u8], input: &[u8]) {
+fn run(out: &impl Print, name: &[u8], input: &[u8]) -> io::Result<()> {
     let output = lane_program::run_program(input);
     let bytes = output.bytes;
-    io::write_all(1, name);
-    say_record(&bytes);
+    out.write_all(name)?;
+    say_record(out, &bytes)
 }
 
 // Entry at the image's start, event count and events after it.
@@ -31,17 +34,17 @@ fn put_symbols(input: &mut [u8]) {
 }
 
 // An input of n bytes whose image begins with a word, and is zeros after it.
-fn run_sized(name: &[u8], n: usize, word: u32)
+fn run_sized(out: &impl Print, name: &[u8], n: usize, word: u32) -> io::Result<()>
     requires { n ≤ 32781 }
 {
     let mut input = [0u8; INPUT_BYTES];
     put_symbols(&mut input);
     put_u32(&mut input, 12, word);
-    run(name, &input[..n]);
+    run(out, name, &input[..n])
 }
 
 // Stores 49 words of zeros, so that with stop's four bytes 200 are written; then one more instruction.
-fn run_stores(name: &[u8], last: u32) {
+fn run_stores(out: &impl Print, name: &[u8], last: u32) -> io::Result<()> {
     let mut input = [0u8; 48];
     put_symbols(&mut input);
     put_u32(&mut input, 12, 0x8000_22B7); // lui x5, 0x80002
@@ -53,11 +56,11 @@ fn run_stores(name: &[u8], last: u32) {
     put_u32(&mut input, 36, last);
     put_u32(&mut input, 40, ONE);
     put_u32(&mut input, 44, RETURN);
-    run(name, &input);
+    run(out, name, &input)
 }
 
 // Counts down from 1,022, in 2,045 steps; then three more instructions, and a fourth where the third does not return.
-fn run_steps(name: &[u8], second: u32, third: u32) {
+fn run_steps(out: &impl Print, name: &[u8], second: u32, third: u32) -> io::Result<()> {
     let mut input = [0u8; 40];
     put_symbols(&mut input);
     put_u32(&mut input, 12, 0x3FE0_0313); // addi x6, x0, 1022
@@ -67,16 +70,16 @@ fn run_steps(name: &[u8], second: u32, third: u32) {
     put_u32(&mut input, 28, second);
     put_u32(&mut input, 32, third);
     put_u32(&mut input, 36, RETURN);
-    run(name, &input);
+    run(out, name, &input)
 }
 
-fn main() {
-    run_sized(b"12 bytes", 12, 0);
-    run_sized(b"13 bytes", 13, 0);
-    run_sized(b"32780 bytes", 32_780, 0x8082_4505); // li a0, 1; ret
-    run_sized(b"32781 bytes", 32_781, 0x8082_4505);
-    run_stores(b"200 rows", NOP);
-    run_stores(b"201 rows", STORE_BYTE);
-    run_steps(b"2048 steps", ONE, RETURN);
-    run_steps(b"2049 steps", NOP, ONE);
+fn main(rt: HostRuntime) -> io::Result<()> {
+    run_sized(&rt, b"12 bytes", 12, 0)?;
+    run_sized(&rt, b"13 bytes", 13, 0)?;
+    run_sized(&rt, b"32780 bytes", 32_780, 0x8082_4505)?; // li a0, 1; ret
+    run_sized(&rt, b"32781 bytes", 32_781, 0x8082_4505)?;
+    run_stores(&rt, b"200 rows", NOP)?;
+    run_stores(&rt, b"201 rows", STORE_BYTE)?;
+    run_steps(&rt, b"2048 steps", ONE, RETURN)?;
+    run_steps(&rt, b"2049 steps", NOP, ONE)
 }

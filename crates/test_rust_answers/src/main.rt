@@ -1,6 +1,10 @@
 // Replays the list of the Rust's answers on standard input, which oracle/lanes makes: runs each input, holds its record against the
 // list's, byte for byte, and prints for each number and role of a refusal how many cases there are and how many differ.
+#![tactic(auto)]
+
 use little_endian::get_u8;
+use std::io;
+use std::io::Read;
 use test_support::{next, next_bytes, say, unlike};
 
 // What lent memory holds before a run.
@@ -17,7 +21,7 @@ fn starts(output: &[u8], n: usize, record: &[u8]) -> bool {
     if output.len() < n {
         return false;
     }
-    check::same(&output[..n], record)
+    &output[..n] == record
 }
 
 // Whether an input's run, in 200 rows and 2,048 entries, gives this record and leaves the rows zero.
@@ -54,50 +58,53 @@ fn replay(input: &[u8], record: &[u8], cases: &mut [u32; 256], differing: &mut [
     }
 }
 
-fn next_case(cases: &mut [u32; 256], differing: &mut [u32; 256]) {
+fn next_case<R: Read>(
+    reader: &mut R,
+    cases: &mut [u32; 256],
+    differing: &mut [u32; 256],
+) -> io::Result<()> {
     let mut input = [0u8; 1024];
     let mut record = [0u8; RECORD_BYTES];
-    let input_bytes = next_bytes(&mut input);
-    let record_bytes = next_bytes(&mut record);
+    let input_bytes = next_bytes(reader, &mut input)?;
+    let record_bytes = next_bytes(reader, &mut record)?;
     replay(
         &input[..input_bytes],
         &record[..record_bytes],
         cases,
         differing,
     );
+    Ok(())
 }
 
-fn report(class: u8, cases: u32, differing: u32) {
+fn report(out: &impl Print, class: u8, cases: u32, differing: u32) -> io::Result<()> {
     if cases == 0 {
-        return;
+        return Ok(());
     }
     if class == 0 {
-        io::write_all(1, b"accepted");
+        out.write_all(b"accepted")?;
     } else {
-        say(b"refusal ", (class / 16) as u64);
-        say(b" role ", (class % 16) as u64);
+        say(out, b"refusal ", (class / 16) as u64)?;
+        say(out, b" role ", (class % 16) as u64)?;
     }
-    say(b": ", cases as u64);
-    say(b" replayed, ", differing as u64);
-    io::write_all(1, b" differ\n");
+    say(out, b": ", cases as u64)?;
+    say(out, b" replayed, ", differing as u64)?;
+    out.write_all(b" differ\n")
 }
 
-fn report_all(cases: [u32; 256], differing: [u32; 256]) {
-    let mut class: usize = 0;
-    while class < 256 {
-        report(class as u8, cases[class], differing[class]);
-        class += 1;
+fn report_all(out: &impl Print, cases: [u32; 256], differing: [u32; 256]) -> io::Result<()> {
+    for class in 0..256usize {
+        report(out, class as u8, cases[class], differing[class])?;
     }
+    Ok(())
 }
 
-fn main() {
+fn main(rt: HostRuntime) -> io::Result<()> {
+    let mut reader = rt.stdin();
     let mut cases = [0u32; 256];
     let mut differing = [0u32; 256];
-    let count = next();
-    let mut i: u32 = 0;
-    while i < count {
-        next_case(&mut cases, &mut differing);
-        i += 1;
+    let count = next(&mut reader)?;
+    for _ in 0..count {
+        next_case(&mut reader, &mut cases, &mut differing)?;
     }
-    report_all(cases, differing);
+    report_all(&rt, cases, differing)
 }
