@@ -14,7 +14,7 @@ import tempfile
 import threading
 import time
 
-from .command import ROOT, first_line
+from .command import ROOT, first_line, in_utf8
 from .errors import Failure
 
 TARGET = os.path.join(ROOT, 'target')
@@ -23,13 +23,15 @@ TIMES = os.path.join(STAMPS, 'times.json')  # the seconds that each crate took w
 MANIFEST = 'build.json'  # of a release: which sources its products were built from, and their digests
 SONAME = 'liblane.so.1'
 Product = collections.namedtuple('Product', 'crate built released')  # the file below target/, and the one of a release, from its lib/lane on
-LIBRARY = Product('lane_exports', 'staticlib/liblane_exports.so', f'../{SONAME}')
-ARCHIVE = Product('lane_exports', 'staticlib/liblane_exports.a', '../liblane.a')
+LIBRARY = Product('lane_exports_c', 'staticlib/liblane_exports.so', f'../{SONAME}')
+ARCHIVE = Product('lane_exports_c', 'staticlib/liblane_exports.a', '../liblane.a')
 PROGRAM = Product('lane_run', 'bin/lane_run', 'lane_run')
 PRODUCTS = LIBRARY, ARCHIVE, PROGRAM
 GUESS = 30  # seconds of a crate that was never timed here
 QUIET = 1.5  # seconds that rt may take before anything is said of it
 PATIENCE = 2  # seconds that rt gets to end by itself
+PAUSE = 0.05  # seconds between two looks at what rt has done
+PROVED = re.compile(rb'^logic=proved', re.MULTILINE)  # what rt prints of a crate that it proves; of one that is as it was it prints nothing
 NO_KIT = ("rt, the Rattle kit's command, is not on PATH, and there is something to prove and build: unpack a release of these sources into "
           'target/, or see README.md, Requirements')
 
@@ -41,7 +43,7 @@ def dependencies():
     """crates.txt: each crate with what it needs."""
     with open(os.path.join(ROOT, 'crates.txt'), encoding='utf-8') as file:
         lines = [line.split('#')[0].split(':') for line in file]
-    return {line[0].strip(): line[1].split() for line in lines if len(line) == 2}
+    return {line[0].split()[0]: line[1].split() for line in lines if len(line) == 2}
 
 
 def levels(name):
@@ -66,7 +68,7 @@ def sources(name):
     """The files that the crate's proof and program are made of."""
     for crate in sorted(plan(name)):
         for folder, below, files in os.walk(os.path.join(ROOT, 'crates', crate)):
-            below[:] = sorted(part for part in below if part != 'must-fail')
+            below[:] = sorted(part for part in below if part not in ('must-fail', 'out'))
             yield from (os.path.join(folder, file) for file in sorted(files))
 
 
@@ -207,7 +209,7 @@ class Progress:
         self.opening = threading.Timer(QUIET, self.open)
 
     def left(self):
-        """Seconds until all is proved: rt takes a level's crates in turn, so many at once, and waits for each such batch."""
+        """Seconds until all is proved, as if each level waited for the one before it."""
         batches = [level[k:k + jobs()] for level in self.levels for k in range(0, len(level), jobs())]
         return sum(max((self.seconds.get(crate, GUESS) for crate in batch if crate not in self.done), default=0) for batch in batches)
 
@@ -227,11 +229,6 @@ class Progress:
         self.opening.cancel()
         if what[0] is None and time.time() - self.began > QUIET:
             self.tell(f'done in {duration(time.time() - self.began)}')
-
-    def hear(self, line):
-        found = re.match(r'rt: (\w+) proved \((?:(\d+) s|unchanged)', line)
-        if found and any(found[1] in level for level in self.levels):
-            self.note(found[1], float(found[2]) if found[2] else None)
 
     def note(self, crate, seconds):
         """A crate is proved, in so many seconds or at an earlier time."""
@@ -273,23 +270,49 @@ def told_to_end():
             signal.signal(number, handler)
 
 
-def rt(words, progress):
-    """Runs rt, telling how far it is; what it printed is shown where it fails. It has a process group of its own and does not outlive this process."""
+class Run:
+    """A run of rt in a crate's folder. It has a process group of its own; what it prints is kept in a file."""
+
+    def __init__(self, word, crate):
+        self.word, self.crate, self.began, self.printed = word, crate, time.time(), tempfile.TemporaryFile()
+        self.process = subprocess.Popen(['rt', word], cwd=os.path.join(ROOT, 'crates', crate), stdin=subprocess.DEVNULL, stdout=self.printed,
+                                        stderr=subprocess.STDOUT, start_new_session=True, env=in_utf8())
+
+    def over(self):
+        return self.process.poll() is not None
+
+    def close(self, progress):
+        """Notes how long it took; what it printed is shown where it failed."""
+        with self.printed:
+            self.printed.seek(0)
+            printed = self.printed.read()
+        if self.process.returncode:
+            raise Failure(f'rt {self.word} in crates/{self.crate} failed with status {self.process.returncode}:\n'
+                          + printed.decode(errors='replace').rstrip())
+        progress.note(self.crate, time.time() - self.began if PROVED.search(printed) else None)
+
+
+def rt(word, name, progress):
+    """Proves the crates that one needs, as many at once as there are cores, each after those below it, and then it, with this word of rt's.
+    No run of rt outlives this process."""
     if shutil.which('rt') is None:
         raise Failure(NO_KIT)
-    printed = []
-    with told_to_end(), subprocess.Popen(['rt', *words], cwd=ROOT, stdin=subprocess.DEVNULL, stdout=subprocess.PIPE,
-                                         stderr=subprocess.STDOUT, start_new_session=True) as run:
+    needs, waiting, running = dependencies(), plan(name), []
+    with told_to_end():
         try:
-            for line in run.stdout:
-                printed.append(line.decode(errors='replace').rstrip())
-                progress.hear(printed[-1])
-            run.wait()
+            while waiting or running:
+                for crate in [one for one in waiting if not set(needs[one]) & set(waiting + [run.crate for run in running])]:
+                    if len(running) < jobs():
+                        waiting.remove(crate)
+                        running.append(Run(word if crate == name else 'lib', crate))
+                for run in [run for run in running if run.over()]:
+                    running.remove(run)
+                    run.close(progress)
+                time.sleep(PAUSE)
         except BaseException:
-            end_group(run)
+            for run in running:
+                end_group(run.process)
             raise
-    if run.returncode:
-        raise Failure('\n'.join([f'rt {" ".join(words)} failed with status {run.returncode}:', *printed]))
 
 
 # ---- building
@@ -315,7 +338,7 @@ def bring(product, tell, make):
 def program(name, tell):
     """The path of a program's binary."""
     product, = (one for one in PRODUCTS if one.crate == name)
-    return released(product) or bring(product, tell, lambda progress: rt(['check', name], progress))
+    return released(product) or bring(product, tell, lambda progress: make_program(product, progress))
 
 
 def shared_object(tell):
@@ -336,15 +359,24 @@ def held(tell):
                 return
 
 
+def copy(product, name):
+    """What rt made in the folder of the product's crate, put in the product's place."""
+    os.makedirs(os.path.dirname(built(product)), exist_ok=True)
+    with tempfile.TemporaryDirectory(dir=os.path.dirname(built(product))) as room:
+        made = os.path.join(room, 'made')
+        shutil.copy(os.path.join(ROOT, 'crates', product.crate, 'out', name), made)
+        os.replace(made, built(product))
+
+
+def make_program(product, progress):
+    """rt run leaves the program that it runs; here it has no input."""
+    rt('run', product.crate, progress)
+    copy(product, product.crate)
+
+
 def make_archive(progress):
-    """rt check proves on every core, rt staticlib on one: so all that the archive needs is proved first."""
-    name, known = ARCHIVE.crate, dependencies()
-    needs = [need for need in known[name] if need in known]
-    if needs:
-        rt(['check', *needs], progress)
-    began = time.time()
-    rt(['staticlib', name], progress)
-    progress.note(name, time.time() - began)
+    rt('lib', ARCHIVE.crate, progress)
+    copy(ARCHIVE, f'lib{ARCHIVE.crate}.a')
 
 
 def make_shared(progress):
@@ -365,7 +397,7 @@ def kit_linker():
     """The linker that comes with the kit, or None."""
     rt_path = shutil.which('rt')
     home = os.environ.get('RATTLE_HOME') or rt_path and os.path.dirname(os.path.dirname(os.path.realpath(rt_path)))
-    path = home and os.path.join(home, 'on', os.uname().machine, 'toolchain', 'bin', 'ld.lld')
+    path = home and os.path.join(home, 'toolchain', 'bin', 'ld.lld')
     return path if path and os.access(path, os.X_OK) else None
 
 

@@ -36,10 +36,15 @@ class Parser(argparse.ArgumentParser):
         raise Failure(f'{printable(message)} (see --help)')
 
 
+def in_utf8():
+    """The environment for a program whose output is read here: rt is Python too, and would print in what this variable asks for."""
+    return {**os.environ, 'PYTHONIOENCODING': 'utf-8'}
+
+
 def first_line(*words):
     """What a program prints first, or None where it can't be had."""
     try:
-        run = subprocess.run(words, stdin=subprocess.DEVNULL, stdout=subprocess.PIPE, stderr=subprocess.DEVNULL)
+        run = subprocess.run(words, stdin=subprocess.DEVNULL, stdout=subprocess.PIPE, stderr=subprocess.DEVNULL, env=in_utf8())
     except OSError:
         return None
     lines = run.stdout.decode(errors='replace').splitlines()
