@@ -3,7 +3,7 @@
    What is lent must not overlap, and each pointer must be valid for its length, even where that is 0 (then any non-null pointer serves).
    None may be NULL, those that stand in a struct included. The library keeps nothing between calls, allocates nothing and locks nothing:
    calls from several threads are independent, as long as they are lent different memory. A call takes less than LANE_STACK_BYTES of stack:
-   lane_run_with, lane_run_image, lane_run_range and lane_run 74 to 78 KB, the other two under 4 KB (x86-64, examples/c/stack.c).
+   lane_run_with, lane_run_image, lane_run_range and lane_run 60 to 64 KB, the other two under 4 KB (x86-64, examples/c/stack.c).
 
    docs/RECORD.md has the record's format and rules, docs/GUARANTEE.md what an accepted record promises. */
 #ifndef LANE_H
