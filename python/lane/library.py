@@ -17,7 +17,7 @@ MAX_IMAGE_BYTES, MAX_INPUT_IMAGE_BYTES = 1048576, 32768  # of any run; of lane-r
 PROGRAM_ROWS, PROGRAM_STEPS = 200, 2048  # what the program lane-run lends
 ACCEPTED, REFUSED = 0x01, 0x7F
 EVENT_WORDS = 'operation', 'offset', 'value', 'location'
-# The words for refusals and roles, from 1 on, as the header and crates/predicate_answer have them.
+# The words for refusals and roles, from 1 on, as the header, crates/predicate_answer and crates/lane_record have them.
 REASONS = dict(enumerate([
     'the image is empty or too large', 'a symbol lies outside memory', 'not at stop after 1,000,000 steps', 'address below memory',
     "access past memory's end", 'unknown', 'not the same in all lanes', 'halfword not accepted', 'word not accepted', 'jump target 0',

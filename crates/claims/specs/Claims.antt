@@ -10,7 +10,7 @@ use Rattle.riscv_decode.specs.Statements.{Counted, StandingApart, OneRow, RowsLi
 use Rattle.lane_word.specs.Flags.{FlagsAgree, OneFlag}
 use Rattle.predicate_answer.specs.Refusal.{Refusal}
 use Rattle.predicate_semantics.specs.Program.{Program}
-use Rattle.predicate_semantics.specs.State.{Result}
+use Rattle.predicate_semantics.specs.State.{RunResult}
 use Rattle.predicate_semantics.specs.Tested.{passed, refused}
 use Rattle.predicate_semantics.specs.Lane.{Setup, lane_run}
 use Rattle.predicate_semantics.specs.Call.{Call}
@@ -58,7 +58,7 @@ pub record Claims : Type 0 where
   pub hints_only_advance : HintsOnlyAdvance
   -- what every run keeps
   pub completed : (p : Program) (l : Setup) (limit : ℕ) → Completed p l limit (lane_run p l limit).state
-  pub accepted : (p : Program) (l : Setup) (limit : ℕ) (r : Result) → (lane_run p l limit).answer ≡ passed r → Accepted l (lane_run p l limit).state r
+  pub accepted : (p : Program) (l : Setup) (limit : ℕ) (r : RunResult) → (lane_run p l limit).answer ≡ passed r → Accepted l (lane_run p l limit).state r
   pub refused_proper : (p : Program) (l : Setup) (limit : ℕ) (r : Refusal) → (lane_run p l limit).answer ≡ refused r → ProperRefusal l r
   pub takes_step : TakesStep
   -- the record

@@ -18,7 +18,7 @@ use Rattle.lane_memory.specs.Holds.{Holds}
 use Rattle.lane_memory.proofs.Laws.{holds_load}
 use Rattle.lane_access.specs.Seen.{offset_of, seen, Above}
 -- where a test of range passed
-pub use Rattle.lane_access.proofs.Loads.{inside_fits, agreed_is, access_inside, access_outside, accessed_word, loads}
+pub use Rattle.lane_access.proofs.Loads.{inside_fits, agreed_is, access_inside, access_outside, accessed_word, accessed_is, loads}
 
 -- below every written address memory is as given
 byte_below : (other : LaneWord) (e a : ℕ) (m : List Written) → a < e → Above e m → byte_at other a m ≡ other

@@ -1,40 +1,43 @@
 -- What the tests of a load and the parts of a fetch come to. Assumes nothing.
+use Rattle.std.specs.Prelude.{Err, None, Ok, Option, Result, Some}
 use mathlib.Core.Path.{◌≡◌, refl, sym, ap, ap₂, ◌∙◌}
-use mathlib.Core.Bool.{Bool, true, false, cond}
+use mathlib.Core.Bool.{Bool, true, false, cond, ◌&&◌}
 use mathlib.Core.List.{List, [], ◌∷◌}
 use Prim.Native.Nat.{ℕ, zero, suc, ◌+◌, ◌-◌, ◌*◌, ◌%◌, ◌^◌, ◌≤◌, ◌<◌}
 use native.Mathlib.Nat.{mod-eq_of_lt, pow-suc}
 use native.Mathlib.Omega.{arith}
-use borrow.Author.Tests.{eq-eqb, ne_eqb, lt-ltb, le-ltb, le-leb, leb-true}
+use borrow.Author.Tests.{eq-eqb, ne_eqb, lt-ltb, le-ltb, lt-leb, le-leb, leb-true}
 use lib.Dec.{ltb, leb}
-use lib.ListN.{length, get_or, take, drop, length-drop}
+use lib.ListN.{length, get_or, replicate, take, drop, length-drop}
 use lib.Seq.{drop-cons, length-take-le}
 use Rattle.little_endian.specs.Number.{value, AllBytes}
 use Rattle.little_endian.proofs.NumberLaws.{value_below, below_drop, below_take}
 use Rattle.rv32_arithmetic.specs.Bits.{join}
 use Rattle.riscv32imc.specs.Constants.{image_base}
 use Rattle.lane_word.specs.declared.LaneWord.{LaneWord}
-use Rattle.lane_word.specs.declared.Uniform.TheVariants as uniform
-use Rattle.lane_word.specs.declared.Told.{Told}
-use Rattle.lane_word.specs.declared.Told.TheVariants.{Value, Lanes}
-use Rattle.lane_word.specs.Word.{unknown, constant, binary, zip, every, uniform_of, lanes}
+use Rattle.lane_word.specs.Word.{constant, binary, zip, every, uniform_of, lanes}
 use Rattle.lane_word.specs.Told.{word_of, told_by}
 use Rattle.lane_word.proofs.Clash.{clash}
 use Rattle.lane_word.proofs.ToldLaws.{binary_constants, uniform_constant}
 use Rattle.predicate_semantics.specs.Choice.{choose}
 use Rattle.predicate_semantics.specs.Program.{Core, memory_end, initial}
 use Rattle.predicate_semantics.specs.Memory.{LaneBytes, read}
-use Rattle.predicate_semantics.specs.Tested.{Tested, passed, refused, refuse, require, ◌>>=◌}
+use Rattle.predicate_semantics.specs.Standing.{standing_core, decoded_operation, expanded_word}
+use Rattle.predicate_semantics.specs.Tested.{Tested, passed, refused, refuse, require, found, ◌>>=◌}
+use Rattle.riscv32imc.specs.Expansion.{expand}
+use Rattle.riscv_decode.specs.declared.Operation.{Operation}
+use Rattle.riscv_decode.specs.Decode.{decode_of}
+use Rattle.predicate_answer.specs.declared.Rv32Error.{Rv32Error}
+use Rattle.predicate_answer.specs.declared.Rv32Error.TheVariants.{BelowMemory, PastMemory, Word, Halfword}
 use Rattle.predicate_answer.specs.Refusal.{Refusal, refusal_of}
 use Rattle.predicate_semantics.specs.Lane.{inside, agreed_as, agreed, access, access_agreed, decode_word, expand_halfword, fetch_four, fetch}
-use Rattle.lane_memory.specs.Rows.{load_byte, told_byte}
-use Rattle.lane_memory.proofs.Laws.{load_below, told_byte_law}
-use Rattle.lane_access.specs.Seen.{offset_of, seen, told_seen, told_read}
+use Rattle.lane_memory.specs.Rows.{load_byte, told_byte, joined, Joined}
+use Rattle.lane_memory.proofs.Laws.{load_below, told_byte_law, joined_value, joined_word}
+use Rattle.lane_access.specs.Seen.{offset_of, seen, image_seen, told_seen, told_read}
+use Rattle.lane_access.specs.InForce.{InForce}
 use Rattle.lane_access.specs.Whole.{Lies}
-use Rattle.lane_access.specs.declared.Accessed.{Accessed}
-use Rattle.lane_access.specs.declared.Loading.{Loading}
-use Rattle.lane_access.specs.declared.Loading.TheVariants as loading
-use Rattle.lane_access.specs.Answers.{accessed_of, accessed_as, loading_of, told_load}
+use Rattle.lane_access.specs.Answers.{tested_of, told_load}
+use Rattle.lane_word.specs.declared.UniformError.TheVariants.{Unknown, Uneven}
 
 -- what the lanes agree on is the uniform test's answer
 pub agreed_is : (role : ℕ) (w : LaneWord) → agreed role w ≡ agreed_as role (uniform_of w)
@@ -45,15 +48,58 @@ agreed_is role w = refl
 pub agreed_constant : (role v : ℕ) → agreed role (constant lanes v) ≡ passed v
 agreed_constant role v = agreed_is role (constant lanes v) ∙ ap (agreed_as role) (uniform_constant lanes v (omega arith))
 
--- the byte by the code's test
-module _ (image rows : List ℕ) (a : ℕ) {b : Bool} (is : b ≡ ltb (offset_of a) (length image)) where
-  pub seen_within : b ≡ true → seen image rows a ≡ constant lanes (initial image a)
-  unfolding seen
-  seen_within h = rw (sym is ∙ h)
+-- from memory's first byte on, memory starts with the image's bytes
+initial_at : (image : List ℕ) (a : ℕ) → image_base ≤ a → initial image a ≡ get_or image (offset_of a) 0
+unfolding initial
+initial_at image a l = rw (le-ltb a image_base l)
 
-  pub seen_past : b ≡ false → seen image rows a ≡ load_byte rows a 0
-  unfolding seen
-  seen_past h = rw (sym is ∙ h)
+-- ---- a byte, by what the image has of it
+
+module _ (image : List ℕ) (a : ℕ) where
+  pub image_at : image_base ≤ a → offset_of a < length image → image_seen image a ≡ Some (get_or image (offset_of a) 0)
+  unfolding image_seen
+  image_at l h = rw (lt-ltb (offset_of a) (length image) h, initial_at image a l)
+
+  pub image_below : a < image_base → 0 < length image → image_seen image a ≡ Some 0
+  unfolding image_seen initial
+  image_below l h = let z : offset_of a ≡ 0 = omega arith in rw (lt-ltb (offset_of a) (length image) (omega arith), lt-ltb a image_base l)
+
+  pub image_past : length image ≤ offset_of a → image_seen image a ≡ None
+  unfolding image_seen
+  image_past h = rw (le-ltb (offset_of a) (length image) h)
+
+  module _ (rows : List ℕ) where
+    by_image : {A : Type 0} (f : ℕ → A) (z : A) (b : Bool) {v : ℕ} → Some v ≡ cond b (Some (initial image a)) None → cond b (f (initial image a)) z ≡ f v
+    by_image f z true {v} e = let q : initial image a ≡ v = cc in rw q
+    by_image f z false {v} e = absurd (clash (cc))
+
+    by_rows : {A : Type 0} (x z : A) (b : Bool) → ◌≡◌ {A = Option ℕ} None (cond b (Some (initial image a)) None) → cond b x z ≡ z
+    by_rows x z true e = absurd (clash (cc))
+    by_rows x z false e = refl
+
+    pub tells_image : {v : ℕ} → Some v ≡ image_seen image a → told_seen image rows a ≡ Some v
+    unfolding image_seen told_seen
+    tells_image e = by_image Some (told_byte rows a 0) (ltb (offset_of a) (length image)) e
+
+    pub tells_rows : None ≡ image_seen image a → told_seen image rows a ≡ told_byte rows a 0
+    unfolding image_seen told_seen
+    tells_rows e = by_rows (Some (initial image a)) (told_byte rows a 0) (ltb (offset_of a) (length image)) e
+
+    seen_image : {v : ℕ} → Some v ≡ image_seen image a → seen image rows a ≡ constant lanes v
+    unfolding image_seen seen
+    seen_image e = by_image (constant lanes) (load_byte rows a 0) (ltb (offset_of a) (length image)) e
+
+    seen_rows : None ≡ image_seen image a → seen image rows a ≡ load_byte rows a 0
+    unfolding image_seen seen
+    seen_rows e = by_rows (constant lanes (initial image a)) (load_byte rows a 0) (ltb (offset_of a) (length image)) e
+
+    pub joins_image : {v : ℕ} (high : List ℕ) {values : List ℕ} → Some v ≡ image_seen image a → values ≡ joined (constant lanes v) high
+        → Joined (seen image rows a) high true values
+    joins_image {v} high e j = rw (seen_image e) (joined_value high refl j)
+
+    pub joins_rows : (high : List ℕ) {values : List ℕ} {known : Bool} → None ≡ image_seen image a → Joined (load_byte rows a 0) high known values
+        → Joined (seen image rows a) high known values
+    joins_rows high e j = rw (seen_rows e) j
 
 -- ---- a number joined from its highest byte down
 
@@ -84,31 +130,50 @@ pub read_more : (memory : LaneBytes) (k x : ℕ) → read lanes memory (suc k) x
 unfolding read
 read_more memory k x = refl
 
-pub told_more : (told : ℕ → Told) (k x : ℕ) → told_read told (suc k) x ≡ told_by join (told x) (told_read told k (suc x))
+pub told_more : (told : ℕ → Option ℕ) (k x : ℕ) → told_read told (suc k) x ≡ told_by join (told x) (told_read told k (suc x))
 unfolding told_read
 told_more told k x = refl
+
+-- a lane word with one byte more, joined below
+pub read_step : (memory : LaneBytes) (n a left : ℕ) {high values : List ℕ} {known r : Bool} → left ≤ n → 0 < left → length high ≡ lanes
+    → record { values = high; known = known } ≡ rest (read lanes memory) n a left → Joined (memory (a + (left - 1))) high r values
+    → record { values = values; known = known && r } ≡ rest (read lanes memory) n a (left - 1)
+read_step memory n a left {high} {values} {known} {r} h k size e j =
+    joined_word (memory (a + (left - 1))) high known size j (both known r)
+    ∙ ap (binary join (memory (a + (left - 1)))) e
+    ∙ sym (rest_more (read lanes memory) n a (λ x. binary join (memory x)) (read_more memory) left h k)
+  where
+    both : (x y : Bool) → (x && y) ≡ (y && x)
+    both true true = refl
+    both true false = refl
+    both false true = refl
+    both false false = refl
+
+pub read_first : (memory : LaneBytes) (n a : ℕ) → record { values = replicate lanes 0; known = true } ≡ rest (read lanes memory) n a n
+unfolding constant read
+read_first memory n a = sym (rest_none (read lanes memory) n a)
 
 -- ---- what one value tells
 
 -- a told value is the word's in every lane: putting it in the word's place changes nothing
-told_fits : (u : Told) (w : LaneWord) → ((v : ℕ) → u ≡ Value v → w ≡ constant lanes v) → word_of u w ≡ w
-told_fits (Value v) w h = sym (h v refl)
-told_fits Lanes w h = refl
+told_fits : (u : Option ℕ) (w : LaneWord) → ((v : ℕ) → u ≡ Some v → w ≡ constant lanes v) → word_of u w ≡ w
+told_fits (Some v) w h = sym (h v refl)
+told_fits None w h = refl
 
 seen_told : (image rows : List ℕ) (a : ℕ) → word_of (told_seen image rows a) (seen image rows a) ≡ seen image rows a
 unfolding told_seen seen
 seen_told image rows a = go (ltb (offset_of a) (length image))
   where
     go : (b : Bool)
-        → word_of (cond b (Value (initial image a)) (told_byte rows a 0)) (cond b (constant lanes (initial image a)) (load_byte rows a 0))
+        → word_of (cond b (Some (initial image a)) (told_byte rows a 0)) (cond b (constant lanes (initial image a)) (load_byte rows a 0))
         ≡ cond b (constant lanes (initial image a)) (load_byte rows a 0)
     go true = refl
     go false = told_fits (told_byte rows a 0) (load_byte rows a 0) (λ v e. told_byte_law rows a 0 e)
 
-by_told : (f : ℕ → ℕ → ℕ) (u v : Told) (x y : LaneWord) → word_of u x ≡ x → word_of v y ≡ y → word_of (told_by f u v) (binary f x y) ≡ binary f x y
-by_told f (Value a) (Value b) x y p q = rw (← p, ← q, binary_constants f lanes a b)
-by_told f (Value a) Lanes x y p q = refl
-by_told f Lanes v x y p q = refl
+by_told : (f : ℕ → ℕ → ℕ) (u v : Option ℕ) (x y : LaneWord) → word_of u x ≡ x → word_of v y ≡ y → word_of (told_by f u v) (binary f x y) ≡ binary f x y
+by_told f (Some a) (Some b) x y p q = rw (← p, ← q, binary_constants f lanes a b)
+by_told f (Some a) None x y p q = refl
+by_told f None v x y p q = refl
 
 -- what is told of a number is its word
 read_told : (image rows : List ℕ) (n a : ℕ) → word_of (told_read (told_seen image rows) n a) (read lanes (seen image rows) n a) ≡ read lanes (seen image rows) n a
@@ -119,33 +184,33 @@ read_told image rows (suc n) a =
     (seen_told image rows a) (read_told image rows n (suc a))
 
 -- .. so one value that is told of it is in every lane
-told_word : (image rows : List ℕ) (n a : ℕ) {v : ℕ} → told_read (told_seen image rows) n a ≡ Value v → read lanes (seen image rows) n a ≡ constant lanes v
-told_word image rows n a e = sym (ap (λ (u : Told). word_of u (read lanes (seen image rows) n a)) (sym e) ∙ read_told image rows n a)
+told_word : (image rows : List ℕ) (n a : ℕ) {v : ℕ} → told_read (told_seen image rows) n a ≡ Some v → read lanes (seen image rows) n a ≡ constant lanes v
+told_word image rows n a e = sym (ap (λ (u : Option ℕ). word_of u (read lanes (seen image rows) n a)) (sym e) ∙ read_told image rows n a)
 
 -- bytes that are not told leave the whole number to its lanes
-lanes_above : (f : ℕ → ℕ → ℕ) (u : Told) → told_by f u Lanes ≡ Lanes
-lanes_above f (Value a) = refl
-lanes_above f Lanes = refl
+lanes_above : (f : ℕ → ℕ → ℕ) (u : Option ℕ) → told_by f u None ≡ None
+lanes_above f (Some a) = refl
+lanes_above f None = refl
 
-module _ (told : ℕ → Told) (n a : ℕ) where
+module _ (told : ℕ → Option ℕ) (n a : ℕ) where
   -- one byte more, below those that are joined
   told_below : (left : ℕ) → left ≤ n → 0 < left → rest (told_read told) n a (left - 1) ≡ told_by join (told (a + (left - 1))) (rest (told_read told) n a left)
   told_below left h k = rest_more (told_read told) n a (λ x. told_by join (told x)) (told_more told) left h k
 
-  pub told_step : {left byte number : ℕ} → left ≤ n → 0 < left → Value byte ≡ told (a + (left - 1)) → Value number ≡ rest (told_read told) n a left
-      → Value (join byte number) ≡ rest (told_read told) n a (left - 1)
+  pub told_step : {left byte number : ℕ} → left ≤ n → 0 < left → Some byte ≡ told (a + (left - 1)) → Some number ≡ rest (told_read told) n a left
+      → Some (join byte number) ≡ rest (told_read told) n a (left - 1)
   told_step {left} h k e f = sym (told_below left h k ∙ ap₂ (told_by join) (sym e) (sym f))
 
-  told_above : (left : ℕ) → left ≤ n → rest (told_read told) n a left ≡ Lanes → told_read told n a ≡ Lanes
+  told_above : (left : ℕ) → left ≤ n → rest (told_read told) n a left ≡ None → told_read told n a ≡ None
   told_above zero h e = sym (rest_all (told_read told) n a 0 (omega arith)) ∙ e
   told_above (suc left) h e =
       let z : suc left - 1 ≡ left = omega arith in
       told_above left (omega arith)
       (rw z at (told_below (suc left) h (omega arith)) ∙ ap (told_by join (told (a + left))) e ∙ lanes_above join (told (a + left)))
 
-  pub told_ends : {left : ℕ} → left ≤ n → 0 < left → Lanes ≡ told (a + (left - 1)) → Lanes ≡ told_read told n a
+  pub told_ends : {left : ℕ} → left ≤ n → 0 < left → None ≡ told (a + (left - 1)) → None ≡ told_read told n a
   told_ends {left} h k e =
-      sym (told_above (left - 1) (omega arith) (told_below left h k ∙ ap (λ (u : Told). told_by join u (rest (told_read told) n a left)) (sym e)))
+      sym (told_above (left - 1) (omega arith) (told_below left h k ∙ ap (λ (u : Option ℕ). told_by join u (rest (told_read told) n a left)) (sym e)))
 
 -- joining stays within a word where the number has at most four bytes
 small : (n : ℕ) → n ≤ 3 → 256 ^ n ≤ 16777216
@@ -160,14 +225,9 @@ join_small x y n hx hy hn =
     let b : 256 ^ n ≤ 16777216 = small n hn in
     mod-eq_of_lt (omega arith)
 
--- from memory's first byte on, memory starts with the image's bytes
-initial_at : (image : List ℕ) (a : ℕ) → image_base ≤ a → initial image a ≡ get_or image (offset_of a) 0
-unfolding initial
-initial_at image a l = rw (le-ltb a image_base l)
-
 -- a number that lies whole in the image is told
 told_image : (image rows : List ℕ) → AllBytes image → (n a : ℕ) → n ≤ 4 → image_base ≤ a → offset_of a + n ≤ length image
-    → told_read (told_seen image rows) n a ≡ Value (value (take n (drop (offset_of a) image)))
+    → told_read (told_seen image rows) n a ≡ Some (value (take n (drop (offset_of a) image)))
 unfolding told_read told_seen
 told_image image rows h zero a k l f = refl
 told_image image rows h (suc n) a k l f =
@@ -178,16 +238,12 @@ told_image image rows h (suc n) a k l f =
     let b : value rest < 256 ^ length rest = value_below rest (below_take n (drop (suc o) image) (below_drop (suc o) image h)) in
     let b' : value rest < 256 ^ n = rw size at b in
     let j : join (get_or image o 0) (value rest) ≡ get_or image o 0 + 256 * value rest = join_small _ _ n (h o) b' (omega arith) in
-    let ih : told_read (told_seen image rows) n (suc a) ≡ Value (value rest)
+    let ih : told_read (told_seen image rows) n (suc a) ≡ Some (value rest)
     = rw e at (told_image image rows h n (suc a) (omega arith) (omega arith) (omega arith)) in
     rw (lt-ltb o (length image) (omega arith), ih, initial_at image a l, j, drop-cons image o 0 (omega arith))
 
--- a number lies there where as many bytes are left from its offset on
-pub lies_left : {image : List ℕ} {a o v n : ℕ} → n ≤ 4 → o ≡ offset_of a → o < length image → leb n (length image - o) ≡ true → v ≡ value (take n (drop o image)) → Lies v image a n
-lies_left {image} {a} {o} {v} {n} k e h b is = record { small = k; fits = omega (arith, e, h, leb-true n (length image - o) b); is = rw (← e) is }
-
-pub lies_told : (image rows : List ℕ) → AllBytes image → (v n a : ℕ) → image_base ≤ a → Lies v image a n → Value v ≡ told_read (told_seen image rows) n a
-lies_told image rows h v n a l f = ap Value f.is ∙ sym (told_image image rows h n a f.small l f.fits)
+pub lies_told : (image rows : List ℕ) → AllBytes image → (v n a : ℕ) → image_base ≤ a → Lies v image a n → Some v ≡ told_read (told_seen image rows) n a
+lies_told image rows h v n a l f = ap Some f.is ∙ sym (told_image image rows h n a f.small l f.fits)
 
 -- ---- a load after its range, and what its lanes agree on
 
@@ -200,9 +256,17 @@ inside_fits a n h = go (leb image_base a) (leb (a + n) memory_end) refl refl h
     go true false p q h = absurd (clash (cc))
     go false c p q h = absurd (clash (cc))
 
-fits_inside : (a n : ℕ) → image_base ≤ a → a + n ≤ memory_end → inside a n ≡ passed tt
+pub fits_inside : (a n : ℕ) → image_base ≤ a → a + n ≤ memory_end → inside a n ≡ passed tt
 unfolding inside require refuse ◌>>=◌
 fits_inside a n l h = rw (le-leb image_base a l, le-leb (a + n) memory_end h)
+
+pub inside_below : (a n : ℕ) → a < image_base → inside a n ≡ refused (refusal_of BelowMemory)
+unfolding inside require refuse ◌>>=◌
+inside_below a n l = rw (lt-leb image_base a l)
+
+pub inside_past : (a n : ℕ) → image_base ≤ a → memory_end < a + n → inside a n ≡ refused (refusal_of PastMemory)
+unfolding inside require refuse ◌>>=◌
+inside_past a n l h = rw (le-leb image_base a l, lt-leb (a + n) memory_end h)
 
 module _ (memory : LaneBytes) (n a : ℕ) where
   pub access_inside : inside a n ≡ passed tt → access lanes memory n a ≡ passed (read lanes memory n a)
@@ -213,43 +277,67 @@ module _ (memory : LaneBytes) (n a : ℕ) where
   unfolding access ◌>>=◌
   access_outside r h = rw h
 
-  -- the answer to a load, both ways
-  pub answer_passed : {w : LaneWord} → inside a n ≡ passed tt → w ≡ read lanes memory n a → (passed tt, w) ≡ accessed_as (access lanes memory n a)
-  answer_passed h e = sym (ap accessed_as (access_inside h ∙ ap passed (sym e)))
+  -- the word of a load whose range passed, as a match finds it and as a whole
+  pub accessed_word : {w : LaneWord} → inside a n ≡ passed tt → passed w ≡ access lanes memory n a → w ≡ read lanes memory n a
+  accessed_word h e = let q = e ∙ access_inside h in cc
 
-  pub answer_refused : {w : LaneWord} (r : Refusal) → inside a n ≡ refused r → w ≡ unknown lanes → (refused r, w) ≡ accessed_as (access lanes memory n a)
-  answer_refused r h e = rw (e, access_outside r h)
-
-  -- the word of a load that passed
-  pub accessed_word : (r : Accessed) → accessed_of r ≡ accessed_as (access lanes memory n a) → inside a n ≡ passed tt → r.word ≡ read lanes memory n a
-  accessed_word r e h = ap (λ (x : Tested (Unit {0}) × LaneWord). x.1) (e ∙ ap accessed_as (access_inside h))
+  pub accessed_is : (r : Result LaneWord Rv32Error) → inside a n ≡ passed tt → tested_of r ≡ access lanes memory n a → r ≡ Ok (read lanes memory n a)
+  accessed_is (Ok w) h e = ap Ok (accessed_word h e)
+  accessed_is (Err x) h e = let q : refused (refusal_of x) ≡ passed (read lanes memory n a) = e ∙ access_inside h in absurd (clash (cc))
 
   module _ (role : ℕ) where
-    pub agreed_inside : inside a n ≡ passed tt → access_agreed lanes role memory n a ≡ agreed role (read lanes memory n a)
+    -- what a load comes to, in its lanes
+    pub agreed_accessed : {w : LaneWord} → passed w ≡ access lanes memory n a → access_agreed lanes role memory n a ≡ agreed role w
     unfolding access_agreed ◌>>=◌
-    agreed_inside h = rw (access_inside h)
+    agreed_accessed e = rw (← e)
+
+    pub agreed_refused : {r : Refusal} → refused r ≡ access lanes memory n a → access_agreed lanes role memory n a ≡ refused r
+    unfolding access_agreed ◌>>=◌
+    agreed_refused e = rw (← e)
+
+    pub agreed_inside : inside a n ≡ passed tt → access_agreed lanes role memory n a ≡ agreed role (read lanes memory n a)
+    agreed_inside h = agreed_accessed (sym (access_inside h))
 
     pub agreed_outside : (r : Refusal) → inside a n ≡ refused r → access_agreed lanes role memory n a ≡ refused r
-    unfolding access_agreed ◌>>=◌
-    agreed_outside r h = rw (access_outside r h)
+    agreed_outside r h = agreed_refused (sym (access_outside r h))
 
 -- what the answer to a load says: its range, and of one value that it is the load's word
-abbrev pub LoadsAs : LaneBytes → ℕ → ℕ → Loading → Type 0
-LoadsAs memory n a (loading.Value v) = (inside a n ≡ passed tt) × (read lanes memory n a ≡ constant lanes v)
-LoadsAs memory n a loading.Lanes = inside a n ≡ passed tt
-LoadsAs memory n a (loading.Refused e) = inside a n ≡ refused (refusal_of e)
+abbrev pub LoadsAs : LaneBytes → ℕ → ℕ → Result (Option ℕ) Rv32Error → Type 0
+LoadsAs memory n a (Ok (Some v)) = (inside a n ≡ passed tt) × (read lanes memory n a ≡ constant lanes v)
+LoadsAs memory n a (Ok None) = inside a n ≡ passed tt
+LoadsAs memory n a (Err e) = inside a n ≡ refused (refusal_of e)
 
-pub loads : (image rows : List ℕ) (n a : ℕ) (r : Loading) → loading_of r ≡ told_load image rows n a → LoadsAs (seen image rows) n a r
+pub loads : (image rows : List ℕ) (n a : ℕ) (r : Result (Option ℕ) Rv32Error) → tested_of r ≡ told_load image rows n a → LoadsAs (seen image rows) n a r
 unfolding told_load ◌>>=◌
 loads image rows n a r e = go r (inside a n) refl e
   where
-    go : (r : Loading) (t : Tested (Unit {0})) → inside a n ≡ t → loading_of r ≡ (t >>= λ _. passed (told_read (told_seen image rows) n a)) → LoadsAs (seen image rows) n a r
-    go (loading.Value v) (passed u) p e = let q : told_read (told_seen image rows) n a ≡ Value v = cc in (p, told_word image rows n a q)
-    go (loading.Value v) (refused x) p e = absurd (clash (cc))
-    go loading.Lanes (passed u) p e = p
-    go loading.Lanes (refused x) p e = absurd (clash (cc))
-    go (loading.Refused r) (passed u) p e = absurd (clash (cc))
-    go (loading.Refused r) (refused x) p e = let q : x ≡ refusal_of r = cc in p ∙ ap refused q
+    go : (r : Result (Option ℕ) Rv32Error) (t : Tested (Unit {0})) → inside a n ≡ t → tested_of r ≡ (t >>= λ _. passed (told_read (told_seen image rows) n a)) → LoadsAs (seen image rows) n a r
+    go (Ok (Some v)) (passed u) p e = let q : told_read (told_seen image rows) n a ≡ Some v = cc in (p, told_word image rows n a q)
+    go (Ok (Some v)) (refused x) p e = absurd (clash (cc))
+    go (Ok None) (passed u) p e = p
+    go (Ok None) (refused x) p e = absurd (clash (cc))
+    go (Err r) (passed u) p e = absurd (clash (cc))
+    go (Err r) (refused x) p e = let q : x ≡ refusal_of r = cc in p ∙ ap refused q
+
+module _ (image rows : List ℕ) (n a : ℕ) where
+  -- the answer to a load that one value may tell
+  pub load_told : inside a n ≡ passed tt → told_load image rows n a ≡ passed (told_read (told_seen image rows) n a)
+  unfolding told_load ◌>>=◌
+  load_told h = rw h
+
+  pub load_refused : (r : Refusal) → inside a n ≡ refused r → told_load image rows n a ≡ refused r
+  unfolding told_load ◌>>=◌
+  load_refused r h = rw h
+
+  -- .. is what its lanes agree on
+  pub agreed_told : (role : ℕ) {v : ℕ} → passed (Some v) ≡ told_load image rows n a → access_agreed lanes role (seen image rows) n a ≡ passed v
+  agreed_told role {v} e =
+      let h = loads image rows n a (Ok (Some v)) e in
+      agreed_inside (seen image rows) n a role h.0 ∙ ap (agreed role) h.1 ∙ agreed_constant role v
+
+  pub agreed_out : (role : ℕ) (e : Rv32Error) → refused (refusal_of e) ≡ told_load image rows n a
+      → access_agreed lanes role (seen image rows) n a ≡ refused (refusal_of e)
+  agreed_out role e h = agreed_outside (seen image rows) n a role (refusal_of e) (loads image rows n a (Err e) h)
 
 -- ---- two bytes are below 65536
 
@@ -279,7 +367,7 @@ agreed_first : (role v : ℕ) (w : LaneWord) → agreed role w ≡ passed v → 
 unfolding agreed uniform_of refuse
 agreed_first role v w h = go w.known (every (get_or w.values 0 0) w.values) h
   where
-    go : (b c : Bool) → agreed_as role (cond b (cond c (uniform.Value (get_or w.values 0 0)) uniform.Uneven) uniform.Unknown) ≡ passed v → get_or w.values 0 0 ≡ v
+    go : (b c : Bool) → agreed_as role (cond b (cond c (Ok (get_or w.values 0 0)) (Err Uneven)) (Err Unknown)) ≡ passed v → get_or w.values 0 0 ≡ v
     go true true h = cc
     go true false h = absurd (clash (cc))
     go false c h = absurd (clash (cc))
@@ -363,3 +451,22 @@ module _ (core : Core) (memory : LaneBytes) (pc steps : ℕ) where
 
   pub begins_half : {v : ℕ} → Begins memory pc v → (v % 4 ≡ 3 → ⊥) → fetch lanes core memory steps pc ≡ expand_halfword core steps (v % 65536)
   begins_half {v} b e = fetch_half (v % 65536) b.half (λ d. e (omega (arith, d)))
+
+-- ---- a word's operation and a halfword's word, by the core in force
+
+module _ (core : Core) (steps : ℕ) (f : InForce standing_core core steps) where
+  pub decode_goes : (word n : ℕ) {o : Operation} → Some o ≡ decode_of word → decode_word core steps word n ≡ passed (record { operation = o; length = n; word = word })
+  unfolding standing_core decode_word decoded_operation found refuse ◌>>=◌
+  decode_goes word n e = rw (f.decodes word, sym e)
+
+  pub decode_fails : (word n : ℕ) → None ≡ decode_of word → decode_word core steps word n ≡ refused (refusal_of Word)
+  unfolding standing_core decode_word decoded_operation found refuse ◌>>=◌
+  decode_fails word n e = rw (f.decodes word, sym e)
+
+  pub expand_goes : (half : ℕ) {w : ℕ} → Some w ≡ expand half → expand_halfword core steps half ≡ decode_word core steps w 2
+  unfolding standing_core expand_halfword expanded_word found refuse ◌>>=◌
+  expand_goes half e = rw (f.expands half, sym e)
+
+  pub expand_fails : (half : ℕ) → None ≡ expand half → expand_halfword core steps half ≡ refused (refusal_of Halfword)
+  unfolding standing_core expand_halfword expanded_word found refuse ◌>>=◌
+  expand_fails half e = rw (f.expands half, sym e)

@@ -1,9 +1,7 @@
 -- Memory as the code sees it (document 01, "Written byte"): the image, and past its end the rows and zeros.
-use Rattle.std.specs.Prelude.{cond, List, [], ◌∷◌, ℕ, zero, suc, ◌-◌, ◌≤◌, ltb, length}
+use Rattle.std.specs.Prelude.{cond, List, [], ◌∷◌, ℕ, zero, suc, ◌-◌, ◌≤◌, ltb, length, None, Option, Some}
 use Rattle.rv32_arithmetic.specs.Bits.{join}
 use Rattle.riscv32imc.specs.Constants.{image_base}
-use Rattle.lane_word.specs.declared.Told.{Told}
-use Rattle.lane_word.specs.declared.Told.TheVariants.{Value}
 use Rattle.lane_word.specs.Word.{constant, lanes}
 use Rattle.lane_word.specs.Told.{told_by}
 use Rattle.predicate_semantics.specs.Program.{initial}
@@ -18,13 +16,17 @@ offset_of a = a - image_base
 unfoldable pub seen : List ℕ → List ℕ → LaneBytes
 seen image rows a = cond (ltb (offset_of a) (length image)) (constant lanes (initial image a)) (load_byte rows a 0)
 
+-- the image's byte there; none past its end
+unfoldable pub image_seen : List ℕ → ℕ → Option ℕ
+image_seen image a = cond (ltb (offset_of a) (length image)) (Some (initial image a)) None
+
 -- what one value tells of it: a byte of the image is told, a written one where its row's mark says so, and what was not written is 0
-unfoldable pub told_seen : List ℕ → List ℕ → ℕ → Told
-told_seen image rows a = cond (ltb (offset_of a) (length image)) (Value (initial image a)) (told_byte rows a 0)
+unfoldable pub told_seen : List ℕ → List ℕ → ℕ → Option ℕ
+told_seen image rows a = cond (ltb (offset_of a) (length image)) (Some (initial image a)) (told_byte rows a 0)
 
 -- the little-endian number in n bytes from an address where each of them is told; else only the lanes tell
-unfoldable pub told_read : (ℕ → Told) → ℕ → ℕ → Told
-told_read told zero a = Value 0
+unfoldable pub told_read : (ℕ → Option ℕ) → ℕ → ℕ → Option ℕ
+told_read told zero a = Some 0
 told_read told (suc n) a = told_by join (told a) (told_read told n (suc a))
 
 -- every written address is at or above a number: stores below the image's end are refused

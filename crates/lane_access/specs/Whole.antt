@@ -1,9 +1,7 @@
 -- Numbers that the image holds whole, so that one reading gives what joining their bytes would.
-use Rattle.std.specs.Prelude.{List, ◌≡◌, ℕ, ◌+◌, ◌≤◌, length, take, drop}
+use Rattle.std.specs.Prelude.{List, ◌≡◌, ℕ, ◌+◌, ◌≤◌, length, take, drop, None, Option, Some}
 use Rattle.little_endian.specs.Number.{value}
 use Rattle.lane_access.specs.Seen.{offset_of}
-use Rattle.lane_access.specs.declared.ImageNumber.{ImageNumber}
-use Rattle.lane_access.specs.declared.ImageNumber.TheVariants.{Number, Elsewhere}
 
 -- v is the number in n bytes of the image
 pub record Lies (v : ℕ) (image : List ℕ) (a n : ℕ) : Type 0 where
@@ -11,6 +9,6 @@ pub record Lies (v : ℕ) (image : List ℕ) (a n : ℕ) : Type 0 where
   pub fits : offset_of a + n ≤ length image
   pub is : v ≡ value (take n (drop (offset_of a) image))
 
-abbrev pub FromImage : ImageNumber → List ℕ → ℕ → ℕ → Type 0
-FromImage (Number v) image a n = Lies v image a n
-FromImage Elsewhere image a n = Unit {0}
+abbrev pub FromImage : Option ℕ → List ℕ → ℕ → ℕ → Type 0
+FromImage (Some v) image a n = Lies v image a n
+FromImage None image a n = Unit {0}

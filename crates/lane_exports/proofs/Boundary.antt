@@ -1,4 +1,5 @@
 -- An outcome's words read back as that outcome, and what was read is written again byte for byte. Assumes nothing.
+use Rattle.std.specs.Prelude.{Err, Ok, Result}
 use mathlib.Core.Path.{◌≡◌, refl, ap, ◌∙◌}
 use mathlib.Core.Bool.{Bool, true, false, cond}
 use mathlib.Core.Option.{Option, none, some}
@@ -16,8 +17,6 @@ use Rattle.predicate_trace.specs.declared.PredicateControlStep.{PredicateControl
 use Rattle.predicate_answer.specs.declared.PredicateTransducerExecution.{PredicateTransducerExecution}
 use Rattle.predicate_answer.specs.Blank.{max_events, no_execution, no_events}
 use Rattle.predicate_trace.specs.Trace.{entry_bytes}
-use Rattle.predicate_answer.specs.declared.RecordAnswer.{RecordAnswer}
-use Rattle.predicate_answer.specs.declared.RecordAnswer.TheVariants as recorded
 use Rattle.predicate_answer.specs.declared.RecordOutcome.{RecordOutcome}
 use Rattle.lane_record.specs.Format.{heading, widths, Record, accepted, refused, execution_values, FitsRecord}
 use Rattle.lane_record.specs.Rules.{valid}
@@ -30,6 +29,7 @@ use Rattle.lane_record.proofs.AnswerLaws.{few_events}
 use Rattle.lane_record.proofs.Theorems.{rewritten}
 use Rattle.lane_library.specs.Outcome.{code, count}
 use Rattle.lane_exports.specs.Boundary.{heading_at, answer_words, event_words, words_after, fit, formed, events_from, outcome_from, FitsAnswer, FitsTypes, ReadsWords, WritesWords, BreaksRules, WordsBack, Rewrites}
+use Rattle.predicate_answer.specs.declared.RecordRefusal.{RecordRefusal}
 
 -- ---- words that stand for no outcome
 none_by : (b : Bool) (o : RecordOutcome) (t : List ℕ) → b ≡ false → given (cond b o no_outcome) t ≡ none
@@ -54,31 +54,31 @@ execution_fits e f =
     (yes (lt-ltb e.sparse_memory_bytes 4294967296 f6.0) (yes (lt-ltb e.event_count 256 f6.1.0) refl))))))
 
 -- an execution's words, after those of an answer
-heading_fits : (a : RecordAnswer) (e : PredicateTransducerExecution) (rest : List ℕ) → Fits (widths heading) (execution_values e)
+heading_fits : (a : Result (Unit {0}) RecordRefusal) (e : PredicateTransducerExecution) (rest : List ℕ) → Fits (widths heading) (execution_values e)
     → fit (widths heading) heading_at (answer_words a ++ (execution_values e ++ rest)) ≡ true
-heading_fits recorded.Accepted e rest f = execution_fits e f
-heading_fits (recorded.Refused r) e rest f = execution_fits e f
+heading_fits (Ok tt) e rest f = execution_fits e f
+heading_fits (Err r) e rest f = execution_fits e f
 
-answer_formed : (a : RecordAnswer) (e : PredicateTransducerExecution) (rest : List ℕ) → FitsAnswer a → Fits (widths heading) (execution_values e)
+answer_formed : (a : Result (Unit {0}) RecordRefusal) (e : PredicateTransducerExecution) (rest : List ℕ) → FitsAnswer a → Fits (widths heading) (execution_values e)
     → formed (answer_words a ++ (execution_values e ++ rest)) ≡ true
-answer_formed recorded.Accepted e rest f g = heading_fits recorded.Accepted e rest g
-answer_formed (recorded.Refused r) e rest f g =
+answer_formed (Ok tt) e rest f g = heading_fits (Ok tt) e rest g
+answer_formed (Err r) e rest f g =
     yes (yes (lt-ltb r.number 256 f.0) (yes (lt-ltb r.role 256 f.1.0) (yes (lt-ltb r.steps 4294967296 f.1.1.0) refl)))
-    (heading_fits (recorded.Refused r) e rest g)
+    (heading_fits (Err r) e rest g)
 
 picked : (b : Bool) (x y : RecordOutcome) → b ≡ true → cond b x y ≡ x
 picked true x y e = refl
 picked false x y e = let z : ◌≡◌ {A = ℕ} 0 1 = cc in absurd (omega arith)
 
-back_by : (a : RecordAnswer) (e : PredicateTransducerExecution) (es : List CompiledMmioEvent)
+back_by : (a : Result (Unit {0}) RecordRefusal) (e : PredicateTransducerExecution) (es : List CompiledMmioEvent)
     → FitsAnswer a → Fits (widths heading) (execution_values e) → length es ≡ max_events
     → outcome_from (answer_words a ++ (execution_values e ++ event_words es)) ≡ record { answer = a; execution = e; events = es }
-back_by recorded.Accepted e es f g h =
-    picked (formed (answer_words recorded.Accepted ++ (execution_values e ++ event_words es))) _ _ (answer_formed recorded.Accepted e (event_words es) f g)
-    ∙ ap (λ (x : List CompiledMmioEvent). record { answer = recorded.Accepted; execution = e; events = x }) (events_back max_events es h)
-back_by (recorded.Refused r) e es f g h =
-    picked (formed (answer_words (recorded.Refused r) ++ (execution_values e ++ event_words es))) _ _ (answer_formed (recorded.Refused r) e (event_words es) f g)
-    ∙ ap (λ (x : List CompiledMmioEvent). record { answer = recorded.Refused r; execution = e; events = x }) (events_back max_events es h)
+back_by (Ok tt) e es f g h =
+    picked (formed (answer_words (Ok tt) ++ (execution_values e ++ event_words es))) _ _ (answer_formed (Ok tt) e (event_words es) f g)
+    ∙ ap (λ (x : List CompiledMmioEvent). record { answer = (Ok tt); execution = e; events = x }) (events_back max_events es h)
+back_by (Err r) e es f g h =
+    picked (formed (answer_words (Err r) ++ (execution_values e ++ event_words es))) _ _ (answer_formed (Err r) e (event_words es) f g)
+    ∙ ap (λ (x : List CompiledMmioEvent). record { answer = Err r; execution = e; events = x }) (events_back max_events es h)
 
 pub words_back : WordsBack
 words_back o f = back_by o.answer o.execution o.events f.answer f.execution f.events

@@ -14,9 +14,8 @@ use Rattle.predicate_answer.specs.declared.CompiledMmioEvent.{CompiledMmioEvent}
 use Rattle.predicate_answer.specs.declared.PredicateTransducerExecution.{PredicateTransducerExecution}
 use Rattle.predicate_answer.specs.Blank.{no_events}
 use Rattle.predicate_semantics.specs.declared.Rv32Program.{Rv32Program}
-use Rattle.predicate_semantics.specs.State.{Result, result_read}
+use Rattle.predicate_semantics.specs.State.{RunResult, result_read}
 use Rattle.predicate_semantics.specs.Standing.{scalar_answer}
-use Rattle.lane_record.specs.declared.ReadAnswer.TheVariants as read
 use Rattle.lane_record.specs.Format.{Record, accepted, refused}
 use Rattle.lane_record.specs.Rules.{valid}
 use Rattle.lane_record.specs.Decode.{decode_record}
@@ -62,10 +61,10 @@ module _ (image : List ℕ) (program : Rv32Program) (said : Said) (output : List
         trace = steps_at 0 x.symbolic_transitions t';
         events = v;
       }) (events_first x.event_count (over es no_events) (few x es ss (decode_valid (take n output) (accepted x es ss) e))) in
-      p n w t (record { answer = read.Read; outcome = accepted_outcome x es }) t'
+      p n w t (accepted_outcome x es) t'
       (rw e (record { answer = rw l; outcome = rw l; trace = h.trace }))
-      refl refl i (omega (arith, low, first)) (omega (arith, high, first, many)) others
-      ∙ ap (λ (r : Result). some r) (sym same)
+      refl i (omega (arith, low, first)) (omega (arith, high, first, many)) others
+      ∙ ap (λ (r : RunResult). some r) (sym same)
   by_room x es ss e false l h = let z : ◌≡◌ {A = ℕ} 0 14 = rw l at h.answer in absurd (omega arith)
 
   by_record : (q : Option Record) → decode_record (take n output) ≡ q → ReadsWords q t ws 0 t' ws' → Answers

@@ -1,5 +1,5 @@
 -- What stands at the C boundary: an answer as a number, and an outcome as words (include/lane.h).
-use Rattle.std.specs.Prelude.{◌≡◌, Bool, true, false, cond, ◌&&◌, ◌||◌, List, [], ◌∷◌, ◌++◌, ℕ, zero, suc, ◌+◌, ◌*◌, ◌^◌, ◌≤◌, eqb, ltb, length, get_or, drop}
+use Rattle.std.specs.Prelude.{◌≡◌, Bool, true, false, cond, ◌&&◌, ◌||◌, List, [], ◌∷◌, ◌++◌, ℕ, zero, suc, ◌+◌, ◌*◌, ◌^◌, ◌≤◌, eqb, ltb, length, get_or, drop, Err, Ok, Result}
 use Rattle.std.proofs.Math.Option.{Option, none}
 use Rattle.little_endian.specs.Number.{AllBytes}
 use Rattle.little_endian.specs.Pack.{Fits}
@@ -8,14 +8,13 @@ use Rattle.lane_word.specs.declared.InputRange.{InputRange}
 use Rattle.predicate_semantics.specs.declared.Rv32Program.{Rv32Program}
 use Rattle.predicate_answer.specs.declared.CompiledMmioEvent.{CompiledMmioEvent}
 use Rattle.predicate_answer.specs.Blank.{no_events}
-use Rattle.predicate_answer.specs.declared.RecordAnswer.{RecordAnswer}
-use Rattle.predicate_answer.specs.declared.RecordAnswer.TheVariants as recorded
 use Rattle.predicate_answer.specs.declared.RecordOutcome.{RecordOutcome}
 use Rattle.lane_record.specs.Format.{heading, event, refusal, kind_byte, widths, Record, execution_values, execution_from, event_values, event_from, refusal_values, refusal_from}
 use Rattle.lane_record.specs.Decode.{decode_record}
 use Rattle.lane_record.specs.Answers.{Said, wrote, done, refuses, write_said, read_answer, read_outcome, read_trace, given, Writes}
 use Rattle.predicate_answer.specs.Outcome.{no_outcome}
 use Rattle.lane_library.specs.Outcome.{code, count}
+use Rattle.predicate_answer.specs.declared.RecordRefusal.{RecordRefusal}
 
 -- a program by its symbols, and a range by its first input and its last
 abbrev pub program_by : ℕ → ℕ → ℕ → Rv32Program
@@ -46,9 +45,9 @@ abbrev pub outcome_size : ℕ
 outcome_size = event_words_at + length no_events * length (widths event)
 
 -- Record: the kind that begins one, then what a refusal says, which an acceptance leaves 0
-abbrev pub answer_words : RecordAnswer → List ℕ
-answer_words recorded.Accepted = kind_byte heading ∷ 0 ∷ 0 ∷ 0 ∷ []
-answer_words (recorded.Refused f) = kind_byte refusal ∷ refusal_values f
+abbrev pub answer_words : Result (Unit {0}) RecordRefusal → List ℕ
+answer_words (Ok tt) = kind_byte heading ∷ 0 ∷ 0 ∷ 0 ∷ []
+answer_words (Err f) = kind_byte refusal ∷ refusal_values f
 
 -- Record: an event after another, a word for each of its fields
 abbrev pub event_words : List CompiledMmioEvent → List ℕ
@@ -86,24 +85,25 @@ formed ws =
     && fit (widths heading) heading_at ws
 
 -- Record: the answer by its kind
-abbrev pub answer_from : List ℕ → RecordAnswer
-answer_from ws = cond (eqb (get_or ws 0 0) (kind_byte heading)) recorded.Accepted (recorded.Refused (refusal_from (drop 1 ws)))
+abbrev pub answer_from : List ℕ → Result (Unit {0}) RecordRefusal
+answer_from ws = cond (eqb (get_or ws 0 0) (kind_byte heading)) (Ok tt) (Err (refusal_from (drop 1 ws)))
 
 -- Record: so many events, one after another
 abbrev pub events_from : ℕ → List ℕ → List CompiledMmioEvent
 events_from zero ws = []
 events_from (suc n) ws = event_from ws ∷ events_from n (drop (length (widths event)) ws)
 
+-- Record: the outcome of words that are so formed
+abbrev pub outcome_formed : List ℕ → RecordOutcome
+outcome_formed ws = record {
+  answer = answer_from ws;
+  execution = execution_from (drop heading_at ws);
+  events = events_from (length no_events) (drop event_words_at ws);
+}
+
 -- Who causes a refusal: words that are not so formed stand for no outcome, and no record has a refusal numbered 0
 abbrev pub outcome_from : List ℕ → RecordOutcome
-outcome_from ws =
-    cond (formed ws)
-    (record {
-      answer = answer_from ws;
-      execution = execution_from (drop heading_at ws);
-      events = events_from (length no_events) (drop event_words_at ws);
-    })
-    no_outcome
+outcome_from ws = cond (formed ws) (outcome_formed ws) no_outcome
 
 -- what lane_write_record answers and leaves
 abbrev pub WritesWords : List ℕ → List ℕ → List ℕ → ℕ → List ℕ → ℕ → Type 0
@@ -116,9 +116,9 @@ abbrev pub BreaksRules : Type 0
 BreaksRules = (ws t : List ℕ) → formed ws ≡ false → given (outcome_from ws) t ≡ none
 
 -- a refusal's numbers fit their types
-abbrev pub FitsAnswer : RecordAnswer → Type 0
-FitsAnswer recorded.Accepted = Unit
-FitsAnswer (recorded.Refused f) = Fits (widths refusal) (refusal_values f)
+abbrev pub FitsAnswer : Result (Unit {0}) RecordRefusal → Type 0
+FitsAnswer (Ok tt) = Unit
+FitsAnswer (Err f) = Fits (widths refusal) (refusal_values f)
 
 -- an outcome's do
 pub record FitsTypes (o : RecordOutcome) : Type 0 where

@@ -3,7 +3,7 @@ use Rattle.std.specs.Prelude.{◌≡◌, List, ℕ, ◌+◌, ◌≤◌, ◌<◌,
 use Rattle.std.proofs.Math.Option.{some}
 use Rattle.predicate_trace.specs.Trace.{steps_at}
 use Rattle.predicate_semantics.specs.declared.Rv32Program.{Rv32Program}
-use Rattle.predicate_semantics.specs.State.{Result}
+use Rattle.predicate_semantics.specs.State.{RunResult}
 use Rattle.predicate_semantics.specs.Standing.{scalar_answer}
 use Rattle.lane_record.specs.Decode.{decode_record}
 use Rattle.lane_record.specs.Answers.{Said, wrote}
@@ -30,7 +30,7 @@ abbrev pub event_count : List ℕ → ℕ
 event_count ws = get_or ws 10 0
 
 -- Scalar run: the result that the words and the trace beside them say
-abbrev pub result_words : List ℕ → List ℕ → Result
+abbrev pub result_words : List ℕ → List ℕ → RunResult
 result_words ws t = record {
   return_value = return_value ws;
   steps = steps ws;

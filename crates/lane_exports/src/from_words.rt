@@ -1,108 +1,38 @@
 // The outcome that words at the C boundary stand for.
-ghost use Rattle.std.specs.Prelude.{◌≡◌, true, ◌&&◌, ◌||◌, [], ◌∷◌, ◌+◌, ◌≤◌, eqb, drop};
+ghost use Rattle.std.specs.Prelude.{◌≡◌, if◌then◌else◌, ◌+◌, ◌≤◌, drop};
 ghost use Rattle.predicate_answer.specs.Blank.{max_events};
-ghost use Rattle.lane_record.specs.Format.{heading, refusal, kind_byte, widths, execution_from, event_from, refusal_from};
-ghost use Rattle.lane_exports.specs.Boundary as boundary;
-ghost use Rattle.lane_exports.specs.Boundary.{heading_at, event_words_at, outcome_size, fit, answer_from, events_from, outcome_from};
+ghost use Rattle.lane_record.specs.Format.{heading, refusal, widths, execution_from, event_from, refusal_from};
+ghost use Rattle.lane_exports.specs.Boundary.{heading_at, event_words_at, outcome_size, fit, formed, events_from, outcome_formed, outcome_from};
 
 use super::words::{ACCEPTED, EVENT_WORDS, EVENTS_AT, HEADING_AT, OUTCOME_WORDS, REFUSED};
 use predicate_answer::{
-    CompiledMmioEvent, MAX_EVENTS, PredicateTransducerExecution, RecordAnswer, RecordOutcome,
-    RecordRefusal,
+    CompiledMmioEvent, MAX_EVENTS, PredicateTransducerExecution, RecordOutcome, RecordRefusal,
 };
 
-// One more than the largest number of one byte, and of two.
-const BYTE: u32 = 0x100;
-
-const TWO_BYTES: u32 = 0x1_0000;
-
-// Called where an operator would part a function's one answer into several ways to prove.
-fn and(a: bool, b: bool) -> bool
-    ensures { result ≡ (a && b) }
+// None where a word is too large for its place.
+fn refusal_from(s: &[u32; OUTCOME_WORDS]) -> Option<RecordRefusal>
+    ensures { result ≡ (if fit (widths refusal) 1 s.now then Some (refusal_from (drop 1 s.now)) else None) }
 {
-    a && b
-}
-
-fn is_kind(x: u32) -> bool
-    ensures { result ≡ (eqb x (kind_byte heading) || eqb x (kind_byte refusal)) }
-{
-    x == ACCEPTED || x == REFUSED
-}
-
-// A word always fits a place of four bytes, which only its type says: so those words are named here too.
-fn refusal_fits(number: u32, role: u32, steps: u32) -> bool
-    ensures { result ≡ fit (widths refusal) 0 (number ∷ role ∷ steps ∷ []) }
-{
-    and(number < BYTE, role < BYTE)
-}
-
-fn heading_fits(
-    first: u32,
-    lanes: u32,
-    value: u32,
-    steps: u32,
-    operations: u32,
-    written: u32,
-    events: u32,
-) -> bool
-    ensures { result ≡ fit (widths heading) 0 (first ∷ lanes ∷ value ∷ steps ∷ operations ∷ written ∷ events ∷ []) }
-{
-    and(first < BYTE, and(lanes < TWO_BYTES, events < BYTE))
-}
-
-fn formed(s: &[u32; OUTCOME_WORDS]) -> bool
-    ensures { result ≡ boundary.formed s.now }
-{
-    let answer = and(is_kind(s[0]), refusal_fits(s[1], s[2], s[3]));
-    and(
-        answer,
-        heading_fits(
-            s[HEADING_AT],
-            s[HEADING_AT + 1],
-            s[HEADING_AT + 2],
-            s[HEADING_AT + 3],
-            s[HEADING_AT + 4],
-            s[HEADING_AT + 5],
-            s[HEADING_AT + 6],
-        ),
-    )
-}
-
-fn refusal_from(s: &[u32; OUTCOME_WORDS]) -> RecordRefusal
-    requires { boundary.formed s.now ≡ true }
-    ensures { result ≡ refusal_from (drop 1 s.now) }
-{
-    RecordRefusal {
-        number: s[1] as u8,
-        role: s[2] as u8,
+    Some(RecordRefusal {
+        number: u8::try_from(s[1]).ok()?,
+        role: u8::try_from(s[2]).ok()?,
         steps: s[3],
-    }
+    })
 }
 
-fn answer_from(s: &[u32; OUTCOME_WORDS]) -> RecordAnswer
-    requires { boundary.formed s.now ≡ true }
-    ensures { result ≡ answer_from s.now }
+// The same.
+fn execution_from(s: &[u32; OUTCOME_WORDS]) -> Option<PredicateTransducerExecution>
+    ensures { result ≡ (if fit (widths heading) heading_at s.now then Some (execution_from (drop heading_at s.now)) else None) }
 {
-    if s[0] == ACCEPTED {
-        return RecordAnswer::Accepted;
-    }
-    let refusal = refusal_from(s);
-    RecordAnswer::Refused(refusal)
-}
-
-fn execution_from(s: &[u32; OUTCOME_WORDS]) -> PredicateTransducerExecution
-    requires { boundary.formed s.now ≡ true }
-    ensures { result ≡ execution_from (drop heading_at s.now) }
-{
-    PredicateTransducerExecution {
-        first_input: s[HEADING_AT] as u8,
-        lane_count: s[HEADING_AT + 1] as u16,
+    Some(PredicateTransducerExecution {
+        first_input: u8::try_from(s[HEADING_AT]).ok()?,
+        lane_count: u16::try_from(s[HEADING_AT + 1]).ok()?,
         return_value: s[HEADING_AT + 2],
         symbolic_transitions: s[HEADING_AT + 3],
         lane_value_operations: s[HEADING_AT + 4],
         sparse_memory_bytes: s[HEADING_AT + 5],
-        event_count: s[HEADING_AT + 6] as u8,
-    }
+        event_count: u8::try_from(s[HEADING_AT + 6]).ok()?,
+    })
 }
 
 fn event_from(s: &[u32; OUTCOME_WORDS], at: usize) -> CompiledMmioEvent
@@ -121,29 +51,31 @@ fn events_from(s: &[u32; OUTCOME_WORDS]) -> [CompiledMmioEvent; MAX_EVENTS]
     ensures { result ≡ events_from max_events (drop event_words_at s.now) }
 {
     let mut events = predicate_answer::no_events();
-    let mut k: usize = 0;
-    let mut at: usize = EVENTS_AT;
-    while k < MAX_EVENTS {
-        let e = event_from(s, at);
-        events[k] = e;
-        k += 1;
-        at += EVENT_WORDS;
+    for (k, event) in events.iter_mut().enumerate() {
+        *event = event_from(s, EVENTS_AT + k * EVENT_WORDS);
     }
     events
+}
+
+// A refusal's numbers are looked at whatever the kind: those of an acceptance have to fit too.
+fn formed_outcome(s: &[u32; OUTCOME_WORDS]) -> Option<RecordOutcome>
+    ensures { result ≡ (if formed s.now then Some (outcome_formed s.now) else None) }
+{
+    let refusal = refusal_from(s)?;
+    let answer = match s[0] {
+        ACCEPTED => Ok(()),
+        REFUSED => Err(refusal),
+        _ => return None,
+    };
+    Some(RecordOutcome {
+        answer,
+        execution: execution_from(s)?,
+        events: events_from(s),
+    })
 }
 
 pub fn outcome_from(s: &[u32; OUTCOME_WORDS]) -> RecordOutcome
     ensures { result ≡ outcome_from s.now }
 {
-    if !formed(s) {
-        return predicate_answer::no_outcome();
-    }
-    let answer = answer_from(s);
-    let execution = execution_from(s);
-    let events = events_from(s);
-    RecordOutcome {
-        answer: answer,
-        execution: execution,
-        events: events,
-    }
+    formed_outcome(s).unwrap_or(predicate_answer::no_outcome())
 }

@@ -6,26 +6,32 @@ mod words;
 
 ghost use Rattle.std.specs.Prelude.{◌≡◌};
 ghost use Rattle.lane_record.specs.Decode.{decode_record};
-ghost use Rattle.lane_record.specs.Answers.{read_said, given, Writes};
 ghost use Rattle.lane_word.specs.Range.{invalid_channels};
 ghost use Rattle.lane_library.specs.Inputs.{image_in, input_program};
 ghost use Rattle.lane_library.specs.Outcome.{ran_said, code, count, lent, Runs};
-ghost use Rattle.lane_exports.specs.Boundary.{outcome_from, program_by, range_by, Coded, ReadsWords, WritesWords};
+ghost use Rattle.lane_exports.specs.Boundary.{program_by, range_by, Coded, ReadsWords, WritesWords};
 
 use from_words::outcome_from;
-use lane_library::RunAnswer;
-use lane_record::{ReadAnswer, WriteAnswer};
+use lane_library::RunError;
 use lane_word::InputRange;
 use predicate_semantics::{Rv32Program, Rv32SymbolLayout};
 pub use words::OUTCOME_WORDS;
 use words::words_of;
 
-// An answer as its number, with how many bytes are written beside it.
-fn coded(answer: RunAnswer, written: &mut u64) -> u32
+// An answer as a number, 0 where a record is written, with how many bytes are written beside it.
+fn coded(answer: Result<usize, RunError>, written: &mut u64) -> u32
     ensures { (result ≡ code (ran_said answer)) × (written.new ≡ count (ran_said answer)) }
 {
-    *written = answer.written() as u64;
-    answer.number()
+    match answer {
+        Ok(count) => {
+            *written = count as u64; // u64 has no From of usize
+            0
+        }
+        Err(error) => {
+            *written = 0;
+            error.number()
+        }
+    }
 }
 
 pub fn lane_run(
@@ -41,7 +47,7 @@ pub fn lane_run(
     coded(answer, written)
 }
 
-// A firmware, a setting and what is lent, field by field: include/lane.h has them as structs.
+// A firmware, a setting and what is lent, field by field, for callers that pass no structs: include/lane.h has the structs.
 pub fn lane_run_with_plain(
     image: &[u8],
     entry: u32,
@@ -57,11 +63,11 @@ pub fn lane_run_with_plain(
     ensures { Coded ran_said (λ a. Runs image.now (program_by entry event_count events) (range_by first_input last_input) (lent rows.old trace.old output.old) a (lent rows.new trace.new output.new)) result written.new }
 {
     let symbols = Rv32SymbolLayout {
-        entry: entry,
-        event_count: event_count,
-        events: events,
+        entry,
+        event_count,
+        events,
     };
-    let program = Rv32Program { symbols: symbols };
+    let program = Rv32Program { symbols };
     let range = InputRange {
         first: first_input,
         last: last_input,
@@ -97,6 +103,7 @@ pub fn lane_run_image(
     )
 }
 
+// A name of its own in include/lane.h: the setting of lane_run_with may grow, and this one's stays at its defaults but for the range.
 pub fn lane_run_range(
     image: &[u8],
     entry: u32,
@@ -125,35 +132,16 @@ pub fn lane_run_range(
     )
 }
 
-fn reading_code(answer: ReadAnswer) -> u32
-    ensures { result ≡ code (read_said answer) }
-{
-    match answer {
-        ReadAnswer::Read => 0,
-        ReadAnswer::RulesBroken => 15,
-        ReadAnswer::TraceTooShort => 14,
-    }
-}
-
 pub fn lane_read_record(bytes: &[u8], trace: &mut [u8], outcome: &mut [u32; OUTCOME_WORDS]) -> u32
     ensures { ReadsWords (decode_record bytes.now) trace.old outcome.old result trace.new outcome.new }
 {
-    let reading = lane_record::read_record(bytes, trace);
-    let answer = reading.answer;
-    let read = reading.outcome;
-    let code = reading_code(answer);
-    if code != 0 {
-        return code;
+    match lane_record::read_record(bytes, trace) {
+        Ok(read) => {
+            *outcome = words_of(read);
+            0
+        }
+        Err(error) => u32::from(error.number()),
     }
-    *outcome = words_of(read);
-    code
-}
-
-fn write_words(words: &[u32; OUTCOME_WORDS], trace: &[u8], output: &mut [u8]) -> WriteAnswer
-    ensures { Writes (given (outcome_from words.now) trace.now) output.old result output.new }
-{
-    let outcome = outcome_from(words);
-    lane_record::write_record(outcome, trace, output)
 }
 
 pub fn lane_write_record(
@@ -164,6 +152,6 @@ pub fn lane_write_record(
 ) -> u32
     ensures { WritesWords outcome.now trace.now output.old result output.new written.new }
 {
-    let answer = write_words(outcome, trace, output);
-    coded(RunAnswer::Recorded(answer), written)
+    let answer = lane_record::write_record(outcome_from(outcome), trace, output);
+    coded(answer.map_err(RunError::from), written)
 }

@@ -1,11 +1,11 @@
 // An outcome as words at the C boundary.
-ghost use Rattle.std.specs.Prelude.{◌≡◌, [], ◌∷◌, ◌+◌, ◌≤◌};
+ghost use Rattle.std.specs.Prelude.{◌≡◌, [], ◌∷◌, ◌+◌, ◌≤◌, length};
 ghost use Rattle.std.proofs.lemmas.List.Edits.{sets};
 ghost use Rattle.lane_record.specs.Format.{execution_values};
 ghost use Rattle.lane_exports.specs.Boundary.{heading_at, event_words_at, outcome_size, answer_words, event_words, outcome_words};
 
 use predicate_answer::{
-    CompiledMmioEvent, MAX_EVENTS, PredicateTransducerExecution, RecordAnswer, RecordOutcome,
+    CompiledMmioEvent, MAX_EVENTS, PredicateTransducerExecution, RecordOutcome, RecordRefusal,
 };
 
 // The kinds of an answer, as a record's first byte has them.
@@ -18,74 +18,64 @@ pub const EVENT_WORDS: usize = 4;
 // Where the first item's fields begin, after the kind and a refusal's three numbers; where the events do; how many words there are.
 pub const HEADING_AT: usize = 4;
 
-pub const EVENTS_AT: usize = HEADING_AT + 7;
+const HEADING_WORDS: usize = 7;
+
+pub const EVENTS_AT: usize = HEADING_AT + HEADING_WORDS;
 
 pub const OUTCOME_WORDS: usize = EVENTS_AT + MAX_EVENTS * EVENT_WORDS;
 
-fn put_four(s: &mut [u32; OUTCOME_WORDS], at: usize, a: u32, b: u32, c: u32, d: u32)
-    requires { at + 4 ≤ outcome_size }
-    ensures { s.new ≡ sets s.old at (a ∷ b ∷ c ∷ d ∷ []) }
-{
-    s[at] = a;
-    s[at + 1] = b;
-    s[at + 2] = c;
-    s[at + 3] = d;
-}
-
-fn put_answer(s: &mut [u32; OUTCOME_WORDS], answer: RecordAnswer)
-    ensures { s.new ≡ sets s.old 0 (answer_words answer) }
+// The words of an answer: its kind, then a refusal's numbers, or zeros.
+fn answer_words(answer: Result<(), RecordRefusal>) -> [u32; HEADING_AT]
+    ensures { result ≡ answer_words answer }
 {
     match answer {
-        RecordAnswer::Accepted => put_four(s, 0, ACCEPTED, 0, 0, 0),
-        RecordAnswer::Refused(f) => put_four(
-            s,
-            0,
+        Ok(()) => [ACCEPTED, 0, 0, 0],
+        Err(refusal) => [
             REFUSED,
-            f.number as u32,
-            f.role as u32,
-            f.steps,
-        ),
+            u32::from(refusal.number),
+            u32::from(refusal.role),
+            refusal.steps,
+        ],
     }
 }
 
-fn put_execution(s: &mut [u32; OUTCOME_WORDS], e: PredicateTransducerExecution)
-    ensures { s.new ≡ sets s.old heading_at (execution_values e) }
+fn execution_words(e: PredicateTransducerExecution) -> [u32; HEADING_WORDS]
+    ensures { result ≡ execution_values e }
 {
-    s[HEADING_AT] = e.first_input as u32;
-    s[HEADING_AT + 1] = e.lane_count as u32;
-    s[HEADING_AT + 2] = e.return_value;
-    put_four(
-        s,
-        HEADING_AT + 3,
+    [
+        u32::from(e.first_input),
+        u32::from(e.lane_count),
+        e.return_value,
         e.symbolic_transitions,
         e.lane_value_operations,
         e.sparse_memory_bytes,
-        e.event_count as u32,
-    );
+        u32::from(e.event_count),
+    ]
 }
 
-fn put_events(s: &mut [u32; OUTCOME_WORDS], events: [CompiledMmioEvent; MAX_EVENTS])
-    ensures { s.new ≡ sets s.old event_words_at (event_words events) }
+// Words at their places.
+fn put(s: &mut [u32; OUTCOME_WORDS], at: usize, words: &[u32])
+    requires { at + length words.now ≤ outcome_size }
+    ensures { s.new ≡ sets s.old at words.now }
 {
-    let mut k: usize = 0;
-    let mut at: usize = EVENTS_AT;
-    while k < MAX_EVENTS {
-        let e = events[k];
-        put_four(s, at, e.operation, e.offset, e.value, e.location);
-        k += 1;
-        at += EVENT_WORDS;
+    s[at..at + words.len()].copy_from_slice(words);
+}
+
+fn put_events(s: &mut [u32; OUTCOME_WORDS], events: &[CompiledMmioEvent; MAX_EVENTS])
+    ensures { s.new ≡ sets s.old event_words_at (event_words events.now) }
+{
+    for (k, event) in events.iter().enumerate() {
+        let words = [event.operation, event.offset, event.value, event.location];
+        put(s, EVENTS_AT + k * EVENT_WORDS, &words);
     }
 }
 
 pub fn words_of(outcome: RecordOutcome) -> [u32; OUTCOME_WORDS]
     ensures { result ≡ outcome_words outcome }
 {
-    let answer = outcome.answer;
-    let execution = outcome.execution;
-    let events = outcome.events;
-    let mut words = [0u32; OUTCOME_WORDS];
-    put_answer(&mut words, answer);
-    put_execution(&mut words, execution);
-    put_events(&mut words, events);
+    let mut words = [0; OUTCOME_WORDS];
+    put(&mut words, 0, &answer_words(outcome.answer));
+    put(&mut words, HEADING_AT, &execution_words(outcome.execution));
+    put_events(&mut words, &outcome.events);
     words
 }

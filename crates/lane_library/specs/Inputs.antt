@@ -1,5 +1,5 @@
 -- The input of the program lane-run (document 01, Record): the symbols, then the image.
-use Rattle.std.specs.Prelude.{◌≡◌, Bool, cond, ◌&&◌, List, [], ℕ, ◌+◌, ◌≤◌, leb, ltb, length, take, drop}
+use Rattle.std.specs.Prelude.{Bool, cond, ◌&&◌, List, [], ℕ, ◌+◌, leb, ltb, length, take, drop}
 use Rattle.little_endian.specs.Number.{value}
 use Rattle.predicate_semantics.specs.declared.Rv32Program.{Rv32Program}
 
@@ -31,8 +31,3 @@ taken input = ltb symbol_bytes (length input) && leb (length input) (symbol_byte
 -- Record: the image; of one that is not taken nothing, which is refused with 1
 abbrev pub image_in : List ℕ → List ℕ
 image_in input = cond (taken input) (drop symbol_bytes input) []
-
--- the image is what lies from a place on
-pub record BeginsImage (input : List ℕ) (start : ℕ) : Type 0 where
-  pub fits : start ≤ length input
-  pub rest : drop start input ≡ image_in input

@@ -2,3 +2,4 @@
 pub mod Inputs
 pub mod Promise
 pub mod Outcome
+pub mod Texts

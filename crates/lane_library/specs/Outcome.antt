@@ -1,10 +1,8 @@
 -- What a call answers and leaves: its record, and every lent byte after it (document 01, Record and Who causes a refusal; over a range, document 02, Three).
-use Rattle.std.specs.Prelude.{◌≡◌, List, ℕ, ◌+◌, ◌*◌, ◌≤◌, length}
+use Rattle.std.specs.Prelude.{◌≡◌, List, ℕ, ◌+◌, ◌*◌, ◌≤◌, length, Err, Ok, Result}
 use Rattle.std.proofs.Math.Option.{Option, some}
 use Rattle.lane_word.specs.declared.InputRange.{InputRange}
 use Rattle.lane_word.specs.Range.{input_count}
-use Rattle.predicate_answer.specs.declared.CallVerdict.{CallVerdict}
-use Rattle.predicate_answer.specs.declared.CallVerdict.TheVariants as verdict
 use Rattle.predicate_answer.specs.declared.CompiledMmioEvent.{CompiledMmioEvent}
 use Rattle.predicate_answer.specs.declared.PredicateTransducerExecution.{PredicateTransducerExecution}
 use Rattle.predicate_answer.specs.Refusal.{call_number}
@@ -15,17 +13,23 @@ use Rattle.predicate_semantics.specs.Outcome.{verdict_on}
 use Rattle.predicate_trace.specs.declared.PredicateControlStep.{PredicateControlStep}
 use Rattle.lane_memory.specs.LentRows.{cleared}
 use Rattle.lane_record.specs.Format.{heading, event, step, size, Record, accepted, encode}
-use Rattle.lane_record.specs.Answers.{Said, wrote, done, refuses, write_said, write_answer, write_output}
+use Rattle.lane_record.specs.Answers.{Said, wrote, done, refuses, write_number, write_answer, write_output}
 use Rattle.lane_record.specs.Runs.{record_of}
 use Rattle.riscv32imc_predicate.specs.Outcome.{trace_after, call_over}
-use Rattle.lane_library.specs.declared.RunAnswer.{RunAnswer}
-use Rattle.lane_library.specs.declared.RunAnswer.TheVariants as ran
+use Rattle.lane_library.specs.declared.RunError.{RunError}
+use Rattle.lane_library.specs.declared.RunError.TheVariants as ran
 use Rattle.lane_library.specs.Promise.{Promise}
+use Rattle.predicate_answer.specs.declared.CallError.{CallError}
 
--- Who causes a refusal: an answer by its number, the writer's or the call's
-abbrev pub ran_said : RunAnswer → Said
-ran_said (ran.Recorded w) = write_said w
-ran_said (ran.Refused e) = refuses (call_number e)
+-- Who causes a refusal: an error by its number, the writer's or the call's
+abbrev pub ran_number : RunError → ℕ
+ran_number (ran.Record e) = write_number e
+ran_number (ran.Call e) = call_number e
+
+-- .. and an answer: so many bytes written, or refused with that number
+abbrev pub ran_said : Result ℕ RunError → Said
+ran_said (Ok n) = wrote n
+ran_said (Err e) = refuses (ran_number e)
 
 -- .. as one number, 0 where it refuses nothing
 abbrev pub code : Said → ℕ
@@ -64,9 +68,9 @@ abbrev pub lent : List ℕ → List ℕ → List ℕ → LentMemory
 lent rows trace output = record { rows = rows; trace = trace; output = output }
 
 -- Who causes a refusal: what is answered with so much output, of a refused call its number, else what the writer of the record does
-abbrev pub answer_by : CallVerdict → Option Record → ℕ → Said
-answer_by verdict.Passed q n = write_answer q n
-answer_by (verdict.Refused e) q n = refuses (call_number e)
+abbrev pub answer_by : Result (Unit {0}) CallError → Option Record → ℕ → Said
+answer_by (Ok tt) q n = write_answer q n
+answer_by (Err e) q n = refuses (call_number e)
 
 module _ (image : List ℕ) (program : Rv32Program) (range : InputRange) (before : LentMemory) where
   -- the call with what is lent
@@ -75,7 +79,7 @@ module _ (image : List ℕ) (program : Rv32Program) (range : InputRange) (before
 
   -- the one outcome of a call, and every lent byte after it: the record is written or does not fit, nothing is written of a refused call,
   -- and the rows are zero, whatever they held
-  pub record Runs (r : RunAnswer) (after : LentMemory) : Type 0 where
+  pub record Runs (r : Result ℕ RunError) (after : LentMemory) : Type 0 where
     pub answer : ran_said r ≡ answer_by (verdict_on called) (record_of called) (length before.output)
     pub output : after.output ≡ write_output (record_of called) before.output
     pub entries : after.trace ≡ trace_after called before.trace

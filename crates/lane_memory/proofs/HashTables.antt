@@ -1,17 +1,15 @@
 -- Laws of `HashTable`: what a search says of the memory, and the memory after a row is written. Assumes nothing.
-use Rattle.std.proofs.Common.{◌≡◌, ℕ, zero, suc, ◌+◌, ◌*◌, ◌%◌, ◌<◌, ◌≤◌, Bool, true, false, cond, eqb, ◌⊎◌, List, [], length, sym, refl, ap, ◌∙◌, subst, ⊎_elim, mod-lt, arith, eq-eqb, ne_eqb, eqb-true}
+use Rattle.std.proofs.Common.{◌≡◌, ℕ, zero, suc, ◌%◌, ◌<◌, Bool, true, false, cond, eqb, ◌⊎◌, List, [], sym, refl, ap, ◌∙◌, subst, ⊎_elim, mod-lt, arith, eq-eqb, ne_eqb, eqb-true}
+use Rattle.std.proofs.lemmas.Bool.{cases_eq}
 use mathlib.Core.Option.{Option, none, some}
 use Rattle.lane_word.specs.declared.LaneWord.{LaneWord}
-use Rattle.lane_word.proofs.Clash.{clash}
 use Rattle.predicate_semantics.specs.Memory.{Written, put}
-use Rattle.lane_memory.specs.LentRows.{row_bytes, row_count}
 use Rattle.lane_memory.specs.Search.{probe, scan, tries, find_in}
-use Rattle.lane_memory.specs.Rows.{held, row_of}
 use Rattle.lane_memory.specs.Holds.{lookup, content, one, used, HashTable}
 use Rattle.lane_memory.specs.declared.Probe.TheVariants.{Empty, Match, Other}
 use Rattle.lane_memory.specs.declared.Found.{Found}
 use Rattle.lane_memory.specs.declared.Found.TheVariants.{At, Free, Full}
-use Rattle.lane_memory.proofs.Search.{same?, Ends, scan_ends, scan_full, scan_same, Grown, scan_keep, scan_new}
+use Rattle.lane_memory.proofs.Search.{Ends, scan_ends, scan_full, scan_same, Grown, scan_keep, scan_new}
 use Rattle.lane_memory.proofs.Memory.{entry, lookup_put, length_put, used_all, used_none, used_change}
 
 -- ---- what a probe says of its row
@@ -26,19 +24,19 @@ empty_none none a e = refl
 empty_none (some w) a e = go (eqb w.address a) e
   where
     go : (t : Bool) → cond t Match Other ≡ Empty → some w ≡ none
-    go true e = absurd (clash (cc))
-    go false e = absurd (clash (cc))
+    go true e = cc
+    go false e = cc
 
 match_has : (o : Option Written) (a : ℕ) → probe o a ≡ Match → Has o a
-match_has none a e = absurd (clash (cc))
+match_has none a e = cc
 match_has (some w) a e = go (eqb w.address a) refl e
   where
     go : (t : Bool) → eqb w.address a ≡ t → cond t Match Other ≡ Match → Has (some w) a
     go true p e = record { what = w; is = refl; its = eqb-true w.address a p }
-    go false p e = absurd (clash (cc))
+    go false p e = cc
 
 other_used : (o : Option Written) (a : ℕ) → probe o a ≡ Other → one o ≡ 1
-other_used none a e = absurd (clash (cc))
+other_used none a e = cc
 other_used (some w) a e = refl
 
 -- ---- what a search says of the rows, of which there may be none
@@ -49,12 +47,12 @@ module _ (T : ℕ → Option Written) (a : ℕ) where
 
   pub at_has : (n s : ℕ) → find_in T n a ≡ At s → Has (T s) a × (s < n)
   unfolding scan
-  at_has zero s e = absurd (clash (cc))
+  at_has zero s e = cc
   at_has (suc n) s e = let p : Ends (λ x. probe (T x) a) (suc n) (At s) = ended (suc n) (omega arith) e in (match_has (T s) a p.0, p.1)
 
   pub free_none : (n s : ℕ) → find_in T n a ≡ Free s → (T s ≡ none) × (s < n)
   unfolding scan
-  free_none zero s e = absurd (clash (cc))
+  free_none zero s e = cc
   free_none (suc n) s e = let p : Ends (λ x. probe (T x) a) (suc n) (Free s) = ended (suc n) (omega arith) e in (empty_none (T s) a p.0, p.1)
 
   pub full_used : (n : ℕ) → find_in T n a ≡ Full → used T n ≡ n
@@ -62,20 +60,12 @@ module _ (T : ℕ → Option Written) (a : ℕ) where
       used_all T n
       (λ t h. other_used (T t) a (scan_full (λ x. probe (T x) a) n (a % n) t (mod-lt a (omega arith)) h e))
 
--- the row that a search ends at lies inside
-module _ (l : List ℕ) (a : ℕ) {r : Found} (e : r ≡ row_of l a) {s : ℕ} where
-  pub at_inside : r ≡ At s → s * row_bytes + row_bytes ≤ length l
-  at_inside q = omega (arith, (at_has (held l) a (row_count l) s (sym e ∙ q)).1)
-
-  pub free_inside : r ≡ Free s → s * row_bytes + row_bytes ≤ length l
-  free_inside q = omega (arith, (free_none (held l) a (row_count l) s (sym e ∙ q)).1)
-
 -- ---- no row is used
 
 pub table_none : (T : ℕ → Option Written) (n : ℕ) → ((s : ℕ) → s < n → T s ≡ none) → HashTable T n []
 unfolding lookup
 table_none T n e = record {
-  finds = λ s w h p. let q : T s ≡ none = e s h in absurd (clash (cc));
+  finds = λ s w h p. let q : T s ≡ none = e s h in cc;
   same = λ a. go a (find_in T n a) refl;
   count = used_none T n e;
 }
@@ -83,7 +73,7 @@ table_none T n e = record {
     go : (a : ℕ) (r : Found) → find_in T n a ≡ r → content T r ≡ none
     go a (At s) q =
         let p : Has (T s) a × (s < n) = at_has T a n s q in
-        let y : T s ≡ none = e s p.1 in let z : T s ≡ some p.0.what = p.0.is in absurd (clash (cc))
+        let y : T s ≡ none = e s p.1 in let z : T s ≡ some p.0.what = p.0.is in cc
     go a (Free s) q = refl
     go a Full q = refl
 
@@ -108,7 +98,7 @@ module _ {T T' : ℕ → Option Written} {n s a : ℕ} {b : LaneWord} (w : Write
   own v p =
       ⊎_elim
       (λ e. let i : Has (T s) a = (at_has T a n s e).0 in let i' : T s ≡ some i.what = i.is in let z : i.what ≡ v = cc in rw (← z) i.its)
-      (λ e. let q : T s ≡ none = (free_none T a n s e).0 in absurd (clash (cc)))
+      (λ e. let q : T s ≡ none = (free_none T a n s e).0 in cc)
       w.takes
 
   is_new : (t : ℕ) (v : Written) → t ≡ s → T' t ≡ some v → entry a b ≡ v
@@ -132,8 +122,8 @@ module _ {T T' : ℕ → Option Written} {n s a : ℕ} {b : LaneWord} (w : Write
         let d : t ≡ s → ⊥ = λ (z : t ≡ s). other (ap (λ (v : Written). v.address) (is_new t i.what z i.is) ∙ i.its) in
         let g : find_in T n x ≡ At t = subst (λ (y : ℕ). find_in T n y ≡ At t) i.its (f t i.what p.1 (sym (w.kept t d) ∙ i.is)) in
         rw (g, w.kept t d)
-    others (Free t) e = sym (gone (find_in T n x) refl (λ u q. clash (cc)))
-    others Full e = sym (gone (find_in T n x) refl (λ u q. clash (cc)))
+    others (Free t) e = sym (gone (find_in T n x) refl (λ u q. cc))
+    others Full e = sym (gone (find_in T n x) refl (λ u q. cc))
 
   module _ {m : List Written} (H : HashTable T n m) where
     -- the search found no row of the address, and a free one
@@ -145,7 +135,7 @@ module _ {T T' : ℕ → Option Written} {n s a : ℕ} {b : LaneWord} (w : Write
         ⊎_elim
         (λ (z : t ≡ s). rw (← is_new t v z p, z) (scan_new (g a) n (tries n) (a % n) s (rw (w.new, eq-eqb a a refl)) e))
         (λ (d : t ≡ s → ⊥). scan_keep (g v.address) n (tries n) (v.address % n) t (H.finds t v h (sym (w.kept t d) ∙ p)))
-        (same? t s)
+        (cases_eq t s)
 
     -- the search found the address's row
     finds_old : find_in T n a ≡ At s → Finds T' n
@@ -155,12 +145,12 @@ module _ {T T' : ℕ → Option Written} {n s a : ℕ} {b : LaneWord} (w : Write
         ⊎_elim
         (λ (z : y ≡ s). rw (z, w.new, i.is, i.its))
         (λ (d : y ≡ s → ⊥). ap (λ (o : Option Written). probe o x) (w.kept y d))
-        (same? y s) in
+        (cases_eq y s) in
         scan_same (λ y. probe (T y) v.address) (λ y. probe (T' y) v.address) n (q v.address) (tries n) (v.address % n) ∙
         ⊎_elim
         (λ (z : t ≡ s). rw (← is_new t v z p, z) e)
         (λ (d : t ≡ s → ⊥). H.finds t v h (sym (w.kept t d) ∙ p))
-        (same? t s)
+        (cases_eq t s)
 
     finds_all : Finds T' n
     finds_all = ⊎_elim finds_old finds_new w.takes
@@ -172,7 +162,7 @@ module _ {T T' : ℕ → Option Written} {n s a : ℕ} {b : LaneWord} (w : Write
         let g : find_in T' n x ≡ At s = subst (λ (y : ℕ). find_in T' n y ≡ At s) z (finds_all s (entry a b) below w.new) in
         rw (lookup_put a b x m, g, w.new, eq-eqb a x z))
         (λ (d : a ≡ x → ⊥). rw (lookup_put a b x m, ne_eqb a x d) (others H.finds finds_all x d (find_in T' n x) refl ∙ H.same x))
-        (same? a x)
+        (cases_eq a x)
 
     row_was : lookup a m ≡ T s
     row_was = ⊎_elim (λ e. sym (H.same a) ∙ rw e) (λ e. sym (H.same a) ∙ rw e (sym (free_none T a n s e).0)) w.takes

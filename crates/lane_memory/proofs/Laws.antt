@@ -1,27 +1,24 @@
 -- The laws that callers cite: when rows hold a memory, what the functions make of it. Assumes nothing.
-use Rattle.std.proofs.Common.{◌≡◌, ℕ, zero, suc, ◌+◌, ◌*◌, ◌/◌, ◌%◌, ◌^◌, ◌<◌, ◌≤◌, Bool, true, false, cond, ◌&&◌, eqb, ◌⊎◌, List, [], ◌++◌, length, get_or, take, drop, replicate, sym, refl, ap, ◌∙◌, subst, inl, inr, ⊎_elim, mod-eq_of_lt, arith, length-append, length-drop, length-set, get_or-set_other, get_or-set_same, drop-set-lt, eq-eqb, ne_eqb}
+use Rattle.std.specs.Prelude.{Option, None, Some}
+use Rattle.std.proofs.Common.{◌≡◌, ℕ, zero, suc, ◌+◌, ◌*◌, ◌/◌, ◌%◌, ◌^◌, ◌<◌, ◌≤◌, Bool, true, false, cond, ◌&&◌, eqb, ◌⊎◌, List, [], length, get_or, take, drop, replicate, sym, refl, ap, ◌∙◌, subst, inl, inr, ⊎_elim, mod-eq_of_lt, arith, length-set, get_or-set_other, get_or-set_same, drop-set-lt, eq-eqb, ne_eqb}
+use Rattle.std.proofs.lemmas.Bool.{cases_eq}
 use mathlib.Core.Option.{none, some}
 use lib.Arith.{lt_of_le-ne}
-use lib.ListN.{length-replicate, get_or-replicate, get_or-append}
 use Rattle.little_endian.specs.Number.{value, AllBytes}
 use Rattle.little_endian.proofs.NumberLaws.{below_take, below_drop}
 use Rattle.rv32_arithmetic.specs.Bits.{byte_of, join}
 use Rattle.lane_word.specs.declared.LaneWord.{LaneWord}
-use Rattle.lane_word.specs.declared.Told.TheVariants.{Value, Lanes}
 use Rattle.lane_word.specs.Word.{lanes, constant, binary, zip}
-use Rattle.lane_word.proofs.Clash.{clash}
 use Rattle.predicate_semantics.specs.Memory.{Written, byte_at, put, write}
 use Rattle.lane_memory.specs.LentRows.{head_bytes, row_bytes, row_count, cleared}
 use Rattle.lane_memory.specs.Search.{find_in}
-use Rattle.lane_memory.specs.Rows.{row_at, lane_byte, row_byte, held, row_of, word_byte, lane_row, value_row, write_row, store_at, store_row, store_rows, store_bytes, store_values, load_at, load_byte, joined, Joined, told_at, told_byte, new_at, new_bytes, unmark_rows, unmarked}
+use Rattle.lane_memory.specs.Rows.{row_at, lane_byte, row_byte, held, row_of, word_byte, lane_row, value_row, write_row, store_at, store_row, store_rows, store_bytes, store_values, row_found, written, load_row, load_byte, joined, Joined, told_written, told_byte, new_row, new_bytes, unmark_rows, unmarked}
 use Rattle.lane_memory.specs.Holds.{lookup, content, one, Holds}
 use Rattle.lane_memory.specs.declared.Found.{Found}
 use Rattle.lane_memory.specs.declared.Found.TheVariants.{At, Free, Full}
-use Rattle.lane_memory.proofs.Search.{same?}
 use Rattle.lane_memory.proofs.Bytes.{byte_size, byte_constant}
 use Rattle.lane_memory.proofs.Memory.{byte_or, byte_lookup, length_put, put_most, write_suc, lookup_write}
 use Rattle.lane_memory.proofs.HashTables.{Has, at_has, free_none, full_used, table_none, put_table}
-use Rattle.lane_memory.proofs.Loops.{new_most}
 use Rattle.lane_memory.proofs.RowBytes.{row_first, write_long, write_behind, held_others, Renders, held_written, lane_renders, value_renders}
 
 -- ---- whatever the rows hold: a store keeps the memory's length and the bytes behind its rows
@@ -82,23 +79,27 @@ every_below (suc n) v h zero = h
 every_below (suc n) v h (suc i) = every_below n v h i
 
 pub load_below : (l : List ℕ) (a other : ℕ) → AllBytes l → other < 256 → AllBytes (load_byte l a other).values
-unfolding load_byte constant
+unfolding load_byte written constant
 load_below l a other b h = go (row_of l a)
   where
     row : (t : Bool) (r : List ℕ) → AllBytes r → AllBytes (cond t (lane_byte r) (constant lanes (get_or r head_bytes 0))).values
     row true r d = below_take lanes (drop head_bytes r) (below_drop head_bytes r d)
     row false r d = every_below lanes (get_or r head_bytes 0) (d head_bytes)
 
-    go : (r : Found) → AllBytes (load_at r l other).values
+    go : (r : Found) → AllBytes (load_row (row_found r l) other).values
     go (At s) = row (eqb (get_or (row_at l s) 2 0) 0) (row_at l s) (below_take row_bytes (drop (s * row_bytes) l) (below_drop (s * row_bytes) l b))
     go (Free s) = every_below lanes other h
     go Full = every_below lanes other h
 
 -- a store has at most as many new bytes as it has bytes
+pub new_most : (r : Option (List ℕ)) → new_row r ≤ 1
+new_most (Some row) = omega arith
+new_most None = omega arith
+
 pub new_bytes_most : (l : List ℕ) (width a : ℕ) → new_bytes l width a ≤ width
 unfolding new_bytes
 new_bytes_most l zero a = omega arith
-new_bytes_most l (suc k) a = omega (arith, new_bytes_most l k a, new_most (row_of l ((a + k) % 2 ^ 32)))
+new_bytes_most l (suc k) a = omega (arith, new_bytes_most l k a, new_most (written l ((a + k) % 2 ^ 32)))
 
 -- a byte joined below a value for each lane, and below others
 pub joined_all : (b : LaneWord) (high : List ℕ) → length high ≡ lanes → joined b high ≡ zip join b.values high
@@ -121,34 +122,23 @@ unfolding binary
 joined_word b high known h j e = rw (e, j.0, j.1, joined_all b high h)
 
 -- one value that is told for all lanes is what a load gives
-pub told_byte_law : (l : List ℕ) (a other : ℕ) {v : ℕ} → told_byte l a other ≡ Value v → load_byte l a other ≡ constant lanes v
+pub told_byte_law : (l : List ℕ) (a other : ℕ) {v : ℕ} → told_byte l a other ≡ Some v → load_byte l a other ≡ constant lanes v
 unfolding told_byte load_byte
-told_byte_law l a other {v} = go (row_of l a)
+told_byte_law l a other {v} = go (written l a)
   where
-    row : (t : Bool) (b : LaneWord) (x : ℕ) → cond t Lanes (Value x) ≡ Value v → cond t b (constant lanes x) ≡ constant lanes v
-    row true b x e = absurd (clash (cc))
+    row : (t : Bool) (b : LaneWord) (x : ℕ) → cond t None (Some x) ≡ Some v → cond t b (constant lanes x) ≡ constant lanes v
+    row true b x e = cc
     row false b x e = let z : x ≡ v = cc in rw z
 
-    go : (r : Found) → told_at r l other ≡ Value v → load_at r l other ≡ constant lanes v
-    go (At s) e = row (eqb (get_or (row_at l s) 2 0) 0) (lane_byte (row_at l s)) (get_or (row_at l s) head_bytes 0) e
-    go (Free s) e = row false (constant lanes other) other e
-    go Full e = row false (constant lanes other) other e
+    go : (r : Option (List ℕ)) → told_written r other ≡ Some v → load_row r other ≡ constant lanes v
+    go (Some r) e = row (eqb (get_or r 2 0) 0) (lane_byte r) (get_or r head_bytes 0) e
+    go None e = row false (constant lanes other) other e
 
 -- ---- clearing
 
 free_row : (l : List ℕ) (s : ℕ) → get_or l (s * row_bytes) 0 ≡ 0 → held l s ≡ none
 unfolding held
 free_row l s e = rw (row_first l s ∙ e)
-
-zero_row : (k s : ℕ) (r : List ℕ) → s * row_bytes < k → held (replicate k 0 ++ r) s ≡ none
-zero_row k s r h =
-    free_row (replicate k 0 ++ r) s
-    (get_or-append (replicate k 0) r 0 (s * row_bytes) (omega (arith, length-replicate {A = ℕ} k 0)) ∙ get_or-replicate {A = ℕ} k (s * row_bytes) 0 0 h)
-
-pub cleared_long : (l : List ℕ) → length (cleared l) ≡ length l
-cleared_long l =
-    length-append (replicate (row_count l * row_bytes) 0) (drop (row_count l * row_bytes) l)
-    ∙ omega (arith, length-replicate {A = ℕ} (row_count l * row_bytes) 0, length-drop (row_count l * row_bytes) l)
 
 -- ---- unmarking
 
@@ -171,7 +161,7 @@ unmark_first (suc n) l s h b =
     (λ (d : s ≡ n → ⊥).
     get_or-set_other (unmark_rows n l) (n * row_bytes) (s * row_bytes) 0 0 (λ q. d (omega arith))
     ∙ unmark_first n l s (lt_of_le-ne (omega arith) d) (omega arith))
-    (same? s n)
+    (cases_eq s n)
 
 pub unmarked_kept : (l : List ℕ) → Kept l (unmarked l)
 unmarked_kept l = record { long = unmark_long (row_count l) l; behind = unmark_behind (row_count l) l (row_count l * row_bytes) (omega arith) }
@@ -192,28 +182,21 @@ unmarked_holds l =
 -- ---- the rows hold a memory
 
 module _ {l : List ℕ} {n : ℕ} {m : List Written} (h : Holds l n m) where
-  -- one row for an address
-  pub one_row : (a s t : ℕ) → Has (held l s) a → Has (held l t) a → s < n → t < n → s ≡ t
-  one_row a s t i j p q =
-      let x : find_in (held l) n a ≡ At s = rw i.its at (h.table.finds s i.what p i.is) in
-      let y : find_in (held l) n a ≡ At t = rw j.its at (h.table.finds t j.what q j.is) in
-      cc
-
   -- a load gives what the memory has
   held_byte : (s : ℕ) (w : Written) → held l s ≡ some w → row_byte (row_at l s) ≡ w.byte
   unfolding held
   held_byte s w e = go (eqb (get_or (row_at l s) 0 0) 0) e
     where
       go : (t : Bool) → cond t none (some (record { address = value (take 4 (drop 4 (row_at l s))); byte = row_byte (row_at l s) })) ≡ some w → row_byte (row_at l s) ≡ w.byte
-      go true e = absurd (clash (cc))
+      go true e = cc
       go false e = cc
 
   pub holds_load : (a other : ℕ) → load_byte l a other ≡ byte_at (constant lanes other) a m
-  unfolding load_byte
+  unfolding load_byte written
   holds_load a other =
       rw (h.rows, byte_lookup (constant lanes other) a m, ← h.table.same a) (go (find_in (held l) n a) refl)
     where
-      go : (r : Found) → find_in (held l) n a ≡ r → load_at r l other ≡ byte_or (constant lanes other) (content (held l) r)
+      go : (r : Found) → find_in (held l) n a ≡ r → load_row (row_found r l) other ≡ byte_or (constant lanes other) (content (held l) r)
       go (At s) e = let i : Has (held l s) a = (at_has (held l) a n s e).0 in held_byte s i.what i.is ∙ rw i.is
       go (Free s) e = refl
       go Full e = refl
@@ -247,10 +230,11 @@ module _ {l : List ℕ} {n : ℕ} {m : List Written} (h : Holds l n m) where
           go (Free s) e = let f : find_in (held l) n a ≡ Free s = rw h.rows at e in taken s (free_none (held l) a n s f).1 (inr f)
           go Full e = absurd (omega (arith, full_exceeds e))
 
-  new_or_held : (a : ℕ) → new_at (row_of l a) + one (lookup a m) ≡ 1
+  new_or_held : (a : ℕ) → new_row (written l a) + one (lookup a m) ≡ 1
+  unfolding written
   new_or_held a = rw (h.rows, ← h.table.same a) (go (find_in (held l) n a) refl)
     where
-      go : (r : Found) → find_in (held l) n a ≡ r → new_at r + one (content (held l) r) ≡ 1
+      go : (r : Found) → find_in (held l) n a ≡ r → new_row (row_found r l) + one (content (held l) r) ≡ 1
       go (At s) e = let i : Has (held l s) a = (at_has (held l) a n s e).0 in rw i.is
       go (Free s) e = refl
       go Full e = refl

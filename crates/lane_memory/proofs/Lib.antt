@@ -3,6 +3,7 @@ mod Search
 mod Bytes
 mod Memory
 mod HashTables
+mod Seek
 mod RowBytes
 mod Loops
 pub mod Laws

@@ -1,15 +1,14 @@
 -- Laws of the list of written bytes, and of the count of used rows. Assumes nothing.
 use Rattle.std.proofs.Common.{◌≡◌, ℕ, zero, suc, ◌+◌, ◌/◌, ◌%◌, ◌<◌, ◌≤◌, Bool, true, false, cond, eqb, List, [], ◌∷◌, length, sym, refl, ap, ◌∙◌, ⊎_elim, arith, ne_eqb, eqb-true}
+use Rattle.std.proofs.lemmas.Bool.{cases_eq}
 use mathlib.Core.Option.{Option, none, some}
 use borrow.Author.Tests.{eqb-false}
 use Rattle.lane_word.specs.declared.LaneWord.{LaneWord}
 use Rattle.lane_word.specs.Word.{unary}
-use Rattle.lane_word.proofs.Clash.{clash}
 use Rattle.predicate_semantics.specs.Choice.{choose}
 use Rattle.predicate_semantics.specs.Memory.{Written, byte_at, put, write}
 use Rattle.lane_memory.specs.Rows.{word_byte}
 use Rattle.lane_memory.specs.Holds.{lookup, one, used}
-use Rattle.lane_memory.proofs.Search.{same?}
 use Rattle.lane_memory.proofs.Bytes.{of_above, of_lowest}
 
 -- ---- one entry for an address
@@ -44,7 +43,7 @@ module _ (a : ℕ) (b : LaneWord) where
     where
       go : (s t : Bool) → t ≡ s → cond s (some (entry a b)) (lookup x m) ≡ cond s (some (entry a b)) (cond t (some w) (lookup x m))
       go true t p = refl
-      go false true p = absurd (clash (cc))
+      go false true p = cc
       go false false p = refl
   put_case x w m false e k = rw k (go (eqb w.address x) (eqb a x) refl refl)
     where
@@ -94,15 +93,6 @@ lookup_write (suc n) a w m x h =
 -- ---- how many rows are used
 
 module _ (T : ℕ → Option Written) where
-  pub used_most : (n : ℕ) → used T n ≤ n
-  unfolding used
-  used_most zero = omega arith
-  used_most (suc n) = go (T n) (used_most n)
-    where
-      go : (o : Option Written) → used T n ≤ n → one o + used T n ≤ suc n
-      go none k = omega arith
-      go (some w) k = omega arith
-
   pub used_all : (n : ℕ) → ((s : ℕ) → s < n → one (T s) ≡ 1) → used T n ≡ n
   unfolding used
   used_all zero f = refl
@@ -127,4 +117,4 @@ module _ (T T' : ℕ → Option Written) (s : ℕ) (kept : (t : ℕ) → (t ≡ 
       ⊎_elim
       (λ (z : n ≡ s). let k : used T' n ≡ used T n = used_kept n (omega arith) in rw (k, z) (omega arith))
       (λ d. rw (kept n d) (omega (arith, used_change n (omega arith))))
-      (same? n s)
+      (cases_eq n s)

@@ -1,60 +1,18 @@
 -- Laws of the search through rows, whatever they hold. Assumes nothing.
-use Rattle.std.proofs.Common.{◌≡◌, ℕ, zero, suc, ◌+◌, ◌-◌, ◌%◌, ◌<◌, ◌≤◌, Bool, true, false, cond, eqb, ltb, ◌⊎◌, sym, refl, ◌∙◌, subst, inl, inr, ⊎_elim, mod-lt, arith, ltb-false, ltb-true, le-ltb, lt-ltb, eqb-true}
-use mathlib.Core.Option.{Option}
-use borrow.Author.Tests.{eqb-false}
-use Rattle.lane_word.proofs.Clash.{clash}
-use Rattle.predicate_semantics.specs.Memory.{Written}
-use Rattle.lane_memory.specs.Search.{probe, next, stride, hop, onward, ending, scan, hops, tries, find_in}
+use Rattle.std.proofs.Common.{◌≡◌, ℕ, zero, suc, ◌+◌, ◌-◌, ◌<◌, ◌≤◌, Bool, true, false, cond, ltb, ◌⊎◌, refl, subst, inl, inr, ⊎_elim, arith, le-ltb, lt-ltb}
+use Rattle.std.proofs.lemmas.Bool.{cases_eq, cases_lt}
+use Rattle.std.proofs.lemmas.Bool.Decides.{nat_tests}
+use Rattle.lane_memory.specs.Search.{next, onward, ending, scan, hops, tries}
 use Rattle.lane_memory.specs.declared.Probe.{Probe}
 use Rattle.lane_memory.specs.declared.Probe.TheVariants.{Empty, Match, Other}
 use Rattle.lane_memory.specs.declared.Found.{Found}
 use Rattle.lane_memory.specs.declared.Found.TheVariants.{At, Free, Full}
 
-pub same? : (x y : ℕ) → (x ≡ y) ⊎ (x ≡ y → ⊥)
-same? x y = go (eqb x y) refl
-  where
-    go : (b : Bool) → eqb x y ≡ b → (x ≡ y) ⊎ (x ≡ y → ⊥)
-    go true e = inl (eqb-true x y e)
-    go false e = inr (eqb-false x y e)
-
-pub less? : (x y : ℕ) → (x < y) ⊎ (y ≤ x)
-less? x y = go (ltb x y) refl
-  where
-    go : (b : Bool) → ltb x y ≡ b → (x < y) ⊎ (y ≤ x)
-    go true e = inl (ltb-true x y e)
-    go false e = inr (ltb-false x y e)
-
-pub next_below : (n s : ℕ) → s < n → next n s < n
-next_below n s h = go (ltb (s + 1) n) refl
-  where
-    go : (b : Bool) → ltb (s + 1) n ≡ b → cond b (s + 1) 0 < n
-    go true e = ltb-true (s + 1) n e
-    go false e = omega arith
-
-pub stride_most : (n : ℕ) → stride n ≤ n
-stride_most n = omega arith
-
-pub hop_on : (n s : ℕ) → s < n - stride n → s + stride n ≡ hop n s
-hop_on n s h = rw (lt-ltb (s + stride n) n (omega arith))
-
-pub hop_round : (n s : ℕ) → n - stride n ≤ s → s - (n - stride n) ≡ hop n s
-hop_round n s h =
-    let l : n ≤ s + stride n = omega arith in
-    rw (le-ltb (s + stride n) n l) (omega (arith, stride_most n))
-
-hop_below : (n s : ℕ) → s < n → hop n s < n
-hop_below n s h = go (ltb (s + stride n) n) refl
-  where
-    go : (b : Bool) → ltb (s + stride n) n ≡ b → cond b (s + stride n) (s + stride n - n) < n
-    go true e = ltb-true (s + stride n) n e
-    go false e = omega (arith, stride_most n, ltb-false (s + stride n) n e)
+next_below : (n s : ℕ) → s < n → next n s < n
+next_below n s h = grind (arith, nat_tests)
 
 pub onward_below : (n j s : ℕ) → s < n → onward n j s < n
-onward_below n j s h = go (ltb j n)
-  where
-    go : (b : Bool) → cond b (next n s) (hop n s) < n
-    go true = next_below n s h
-    go false = hop_below n s h
+onward_below n j s h = grind (arith, nat_tests)
 
 -- t is among the j rows of n from s on: up to the last, then from the first
 record Ahead (n j s t : ℕ) : Type 0 where
@@ -71,11 +29,11 @@ ahead_next {n} {j} {s} {t} w d =
           ⊎_elim
           (λ l. rw (lt-ltb (s + 1) n l) (⊎_elim (λ p. inl (omega arith, omega arith)) (λ p. inr (omega arith)) w.among))
           (λ l. rw (le-ltb (s + 1) n l) (⊎_elim (λ p. absurd (d (omega (arith, w.there)))) (λ p. inl (omega arith, omega arith)) w.among))
-          (less? (s + 1) n);
+          (cases_lt (s + 1) n);
     }
 
 module _ (P : ℕ → Probe) (n : ℕ) where
-  scan_step : (j s : ℕ) → 0 < j → scan P n j s ≡ ending (P s) s (scan P n (j - 1) (onward n (j - 1) s))
+  pub scan_step : (j s : ℕ) → 0 < j → scan P n j s ≡ ending (P s) s (scan P n (j - 1) (onward n (j - 1) s))
   unfolding scan
   scan_step zero s h = absurd (omega arith)
   scan_step (suc j) s h = let e : suc j - 1 ≡ j = omega arith in rw e
@@ -98,8 +56,8 @@ module _ (P : ℕ → Probe) (n : ℕ) where
 
   -- a search that ends with nothing has passed every row
   full_ends : {A : Type 0} (s : ℕ) (p : Probe) (r : Found) → P s ≡ p → (P s ≡ Other → r ≡ Full → A) → ending p s r ≡ Full → A
-  full_ends s Empty r q k e = absurd (clash (cc))
-  full_ends s Match r q k e = absurd (clash (cc))
+  full_ends s Empty r q k e = cc
+  full_ends s Match r q k e = cc
   full_ends s Other r q k e = k q e
 
   -- the last rows are looked at one after another
@@ -109,12 +67,12 @@ module _ (P : ℕ → Probe) (n : ℕ) where
   scan_ahead (suc j) s t l w e =
       full_ends s (P s) _ refl
       (λ q f. ⊎_elim (λ z. rw z at q)
-      (λ d. scan_ahead j (next n s) t (omega arith) (ahead_next w d) (rw (lt-ltb j n (omega arith)) at f)) (same? s t)) e
+      (λ d. scan_ahead j (next n s) t (omega arith) (ahead_next w d) (rw (lt-ltb j n (omega arith)) at f)) (cases_eq s t)) e
 
   scan_all : (s t : ℕ) → s < n → t < n → scan P n n s ≡ Full → P t ≡ Other
   scan_all s t h b e =
       scan_ahead n s t (omega arith)
-      (record { here = h; there = b; among = ⊎_elim (λ l. inr (omega arith)) (λ l. inl (l, omega arith)) (less? t s) }) e
+      (record { here = h; there = b; among = ⊎_elim (λ l. inr (omega arith)) (λ l. inl (l, omega arith)) (cases_lt t s) }) e
 
   -- hops come first
   scan_hops : (k s t : ℕ) → s < n → t < n → scan P n (n + k) s ≡ Full → P t ≡ Other
@@ -150,8 +108,8 @@ module _ {P P' : ℕ → Probe} (g : Grown P P') where
 
   stays_on : (s : ℕ) (p : Probe) (r r' : Found) → P s ≡ p → Stays r r' → Stays (ending p s r) (ending (P' s) s r')
   stays_on s Empty r r' q k = λ m. rw m
-  stays_on s Match r r' q k = rw (g.kept s (λ p. absurd (clash (cc))), q)
-  stays_on s Other r r' q k = rw (g.kept s (λ p. absurd (clash (cc))), q) k
+  stays_on s Match r r' q k = rw (g.kept s (λ p. cc), q)
+  stays_on s Other r r' q k = rw (g.kept s (λ p. cc), q) k
 
   scan_stays : (n j s : ℕ) → Stays (scan P n j s) (scan P' n j s)
   unfolding scan
@@ -163,33 +121,3 @@ module _ {P P' : ℕ → Probe} (g : Grown P P') where
 
   pub scan_new : (n j s t : ℕ) → P' t ≡ Match → scan P n j s ≡ Free t → scan P' n j s ≡ At t
   scan_new n j s t m e = subst (λ (r : Found). Stays r (scan P' n j s)) e (scan_stays n j s) m
-
--- the loop of `find`: what is left of the search has the whole's answer
-pub record Seeking (T : ℕ → Option Written) (n a s left : ℕ) : Type 0 where
-  pub below : s < n
-  pub rest : find_in T n a ≡ scan (λ x. probe (T x) a) n left s
-
-pub seek_start : (T : ℕ → Option Written) (n a : ℕ) → (n ≡ 0 → ⊥) → Seeking T n a (a % n) (tries n)
-seek_start T n a h = record { below = mod-lt a (omega arith); rest = refl }
-
-pub seek_none : (T : ℕ → Option Written) (n a : ℕ) → n ≡ 0 → Full ≡ find_in T n a
-unfolding scan
-seek_none T n a e = rw e
-
-module _ {T : ℕ → Option Written} {n a s left : ℕ} (k : Seeking T n a s left) where
-  pub seek_full : left ≤ 0 → Full ≡ find_in T n a
-  unfolding scan
-  seek_full h = let z : left ≡ 0 = omega arith in sym (k.rest ∙ rw z)
-
-  module _ (h : 0 < left) {p : Probe} (e : p ≡ probe (T s) a) where
-    turn : find_in T n a ≡ ending p s (scan (λ x. probe (T x) a) n (left - 1) (onward n (left - 1) s))
-    turn = k.rest ∙ scan_step (λ x. probe (T x) a) n left s h ∙ rw e
-
-    pub seek_empty : p ≡ Empty → Free s ≡ find_in T n a
-    seek_empty q = sym (turn ∙ rw q)
-
-    pub seek_match : p ≡ Match → At s ≡ find_in T n a
-    seek_match q = sym (turn ∙ rw q)
-
-    pub seek_on : {t : ℕ} → p ≡ Other → t ≡ onward n (left - 1) s → Seeking T n a t (left - 1)
-    seek_on q f = rw f (record { below = onward_below n (left - 1) s k.below; rest = turn ∙ rw q })

@@ -1,4 +1,4 @@
--- Lent memory in whole rows (document 01, "Who causes a refusal"): how many it has, and what a run leaves of them.
+-- Lent memory in whole rows: how many it has, and what a run leaves of them.
 use Rattle.std.specs.Prelude.{ℕ, ◌+◌, ◌*◌, ◌/◌, List, ◌++◌, length, drop, replicate}
 
 -- what a row starts with: a used mark, a known mark, a uniform mark, a zero, 4 bytes of address

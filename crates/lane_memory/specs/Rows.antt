@@ -1,12 +1,11 @@
--- The rows of lent memory (document 01, "Written byte"): what a row holds, and what each function answers and leaves.
-use Rattle.std.specs.Prelude.{◌≡◌, ℕ, zero, suc, ◌+◌, ◌*◌, ◌%◌, ◌^◌, Bool, true, false, cond, not, List, [], ◌∷◌, ◌++◌, length, take, drop, ◌==◌, slice_index, slice_set}
-use Rattle.std.proofs.Math.Option.{Option, none, some}
+-- The rows of lent memory: what a row holds, and what each function answers and leaves.
+use Rattle.std.specs.Prelude.{◌≡◌, ℕ, zero, suc, ◌+◌, ◌*◌, ◌%◌, ◌^◌, ◌<◌, Bool, true, false, cond, not, List, [], ◌∷◌, ◌++◌, length, take, drop, ◌==◌, slice_index, slice_set, None, Option, Some}
+use Rattle.std.proofs.Math.Option as Math
+use Rattle.std.proofs.Math.Option.{none, some}
 use Rattle.std.proofs.lemmas.List.Edits.{sets}
 use Rattle.little_endian.specs.Number.{value, bytes}
 use Rattle.rv32_arithmetic.specs.Bits.{byte_of, join}
 use Rattle.lane_word.specs.declared.LaneWord.{LaneWord}
-use Rattle.lane_word.specs.declared.Told.{Told}
-use Rattle.lane_word.specs.declared.Told.TheVariants.{Value, Lanes}
 use Rattle.lane_word.specs.Word.{lanes, constant, unary, zip}
 use Rattle.predicate_semantics.specs.Memory.{Written}
 use Rattle.lane_memory.specs.Search.{find_in}
@@ -27,11 +26,11 @@ abbrev pub row_byte : List ℕ → LaneWord
 row_byte row = cond (slice_index row 2 == 0) (lane_byte row) (constant lanes (slice_index row head_bytes))
 
 -- what a row holds: nothing where its used mark is 0
-abbrev pub row_holds : List ℕ → Option Written
+abbrev pub row_holds : List ℕ → Math.Option Written
 row_holds row =
     cond (slice_index row 0 == 0) none (some (record { address = value (take 4 (drop 4 row)); byte = row_byte row }))
 
-unfoldable pub held : List ℕ → ℕ → Option Written
+unfoldable pub held : List ℕ → ℕ → Math.Option Written
 held memory s = row_holds (row_at memory s)
 
 -- the search through lent rows
@@ -84,14 +83,27 @@ store_bytes memory n a w = store_rows memory n a (λ k x. lane_row x (word_byte 
 unfoldable pub store_values : List ℕ → ℕ → ℕ → ℕ → List ℕ
 store_values memory n a v = store_rows memory n a (λ k x. value_row x (byte_of v k))
 
+-- the bytes of the row that a search has found
+abbrev pub row_found : Found → List ℕ → Option (List ℕ)
+row_found (At s) memory = Some (row_at memory s)
+row_found (Free s) memory = None
+row_found Full memory = None
+
+-- the row that an address has
+unfoldable pub written : List ℕ → ℕ → Option (List ℕ)
+written memory a = row_found (row_of memory a) memory
+
 -- the written byte, or the one given
-abbrev pub load_at : Found → List ℕ → ℕ → LaneWord
-load_at (At s) memory other = row_byte (row_at memory s)
-load_at (Free s) memory other = constant lanes other
-load_at Full memory other = constant lanes other
+abbrev pub load_row : Option (List ℕ) → ℕ → LaneWord
+load_row (Some row) other = row_byte row
+load_row None other = constant lanes other
 
 unfoldable pub load_byte : List ℕ → ℕ → ℕ → LaneWord
-load_byte memory a other = load_at (row_of memory a) memory other
+load_byte memory a other = load_row (written memory a) other
+
+-- P says of a lane and a number only that the number is the lane's value in b
+abbrev pub GivesLanes : (ℕ → ℕ → Type 0) → LaneWord → Type 0
+GivesLanes P b = (length b.values ≡ lanes) × ((k x : ℕ) → k < lanes → P k x → x ≡ slice_index b.values k)
 
 -- a byte below the values above it, in each lane; where there is not a value for each lane, they stay
 unfoldable pub joined : LaneWord → List ℕ → List ℕ
@@ -102,26 +114,24 @@ abbrev pub Joined : LaneWord → List ℕ → Bool → List ℕ → Type 0
 Joined b high known values = (known ≡ b.known) × (values ≡ joined b high)
 
 -- whether a row has one value for all lanes; what was not written has
-abbrev pub told_row : List ℕ → Told
-told_row row = cond (slice_index row 2 == 0) Lanes (Value (slice_index row head_bytes))
+abbrev pub told_row : List ℕ → Option ℕ
+told_row row = cond (slice_index row 2 == 0) None (Some (slice_index row head_bytes))
 
-abbrev pub told_at : Found → List ℕ → ℕ → Told
-told_at (At s) memory other = told_row (row_at memory s)
-told_at (Free s) memory other = Value other
-told_at Full memory other = Value other
+abbrev pub told_written : Option (List ℕ) → ℕ → Option ℕ
+told_written (Some row) other = told_row row
+told_written None other = Some other
 
-unfoldable pub told_byte : List ℕ → ℕ → ℕ → Told
-told_byte memory a other = told_at (row_of memory a) memory other
+unfoldable pub told_byte : List ℕ → ℕ → ℕ → Option ℕ
+told_byte memory a other = told_written (written memory a) other
 
 -- how many of a store's n bytes have no row yet
-abbrev pub new_at : Found → ℕ
-new_at (At s) = 0
-new_at (Free s) = 1
-new_at Full = 1
+abbrev pub new_row : Option (List ℕ) → ℕ
+new_row (Some row) = 0
+new_row None = 1
 
 unfoldable pub new_bytes : List ℕ → ℕ → ℕ → ℕ
 new_bytes memory zero a = 0
-new_bytes memory (suc k) a = new_bytes memory k a + new_at (row_of memory ((a + k) % 2 ^ 32))
+new_bytes memory (suc k) a = new_bytes memory k a + new_row (written memory ((a + k) % 2 ^ 32))
 
 -- the first n rows are free, all whole rows are: only their used marks change
 unfoldable pub unmark_rows : ℕ → List ℕ → List ℕ

@@ -1,24 +1,38 @@
 // Written bytes in lent memory: a row for each address, found by open addressing without deletion.
 #![tactic(auto)]
 
-ghost use Rattle.std.specs.Prelude.{◌≡◌, ◌+◌, ◌*◌, ◌^◌, ◌<◌, ◌≤◌, map, length, if◌then◌else◌};
+ghost use Rattle.std.specs.Prelude.{◌≡◌, ℕ, List, ◌+◌, ◌*◌, ◌^◌, ◌<◌, ◌≤◌, map, length, option_copied};
 ghost use Rattle.std.proofs.lemmas.List.Edits.{sets};
 ghost use Rattle.rv32_arithmetic.specs.Bits.{byte_of};
+ghost use Rattle.lane_word.specs.declared.LaneWord.{LaneWord};
 ghost use Rattle.lane_word.specs.Word.{lanes, constant};
 ghost use Rattle.lane_memory.specs.LentRows.{head_bytes, row_bytes, row_count, cleared};
-ghost use Rattle.lane_memory.specs.Search.{probe, next, hop, onward, hops, tries};
-ghost use Rattle.lane_memory.specs.Rows.{held, row_of, word_byte, head_of, lane_row, value_row, write_row, store_byte, store_value, store_bytes, store_values, row_at, lane_byte, row_byte, load_byte, joined, Joined, told_row, told_byte, new_at, new_bytes, unmarked};
+ghost use Rattle.lane_memory.specs.Search.{probe, onward, hops, tries};
+ghost use Rattle.lane_memory.specs.Rows.{row_of, word_byte, head_of, lane_row, value_row, store_row, store_rows, store_byte, store_bytes, store_values, row_holds, written, lane_byte, row_byte, load_byte, GivesLanes, joined, Joined, told_row, told_byte, new_bytes, unmarked};
 
-use lane_word::{LaneWord, Told};
+use lane_word::LaneWord;
 use rv32_arithmetic::{byte_of, join};
 
 // A row's head: a used mark, a known mark, a uniform mark, a zero, the address in 4 bytes.
+const USED: usize = 0;
+
+const KNOWN: usize = 1;
+
+const UNIFORM: usize = 2;
+
+const ZERO: usize = 3;
+
+const ADDRESS: usize = 4;
+
 const HEAD_BYTES: usize = 8;
 // A row: its head and room for 256 lane values of a byte each.
 // Under a uniform mark the byte is known and lane value 0 serves for every lane.
 pub const ROW_BYTES: usize = HEAD_BYTES + 256;
 // How many hops a search makes before it looks at every row.
 const HOPS: usize = 32;
+
+// A row's bytes.
+type Row = [u8; ROW_BYTES];
 
 // What a search for an address comes to: its row, a free row for it, or neither.
 #[derive(Clone, Copy)]
@@ -43,50 +57,34 @@ pub fn row_count(rows: &[u8]) -> usize
     rows.len() / ROW_BYTES
 }
 
-#[tactic(auto, using(crate::proofs::RowBytes::sees_empty, crate::proofs::RowBytes::sees_match, crate::proofs::RowBytes::sees_other))]
-fn probe_row(rows: &[u8], row: usize, address: u32) -> Probe
-    requires { row * row_bytes + row_bytes ≤ length rows.now }
-    ensures { result ≡ probe (held rows.now row) address }
+fn probe_row(row: &Row, address: u32) -> Probe
+    ensures { result ≡ probe (row_holds row.now) address }
 {
-    let at = row * ROW_BYTES;
-    if rows[at] == 0 {
+    if row[USED] == 0 {
         return Probe::Empty;
     }
-    if little_endian::get_u32(rows, at + 4) == address {
+    if little_endian::get::<u32>(row, ADDRESS) == address {
         Probe::Match
     } else {
         Probe::Other
     }
 }
 
-fn next_row(row: usize, count: usize) -> usize
-    requires { row < count }
-    ensures { result ≡ next count row }
-{
-    if row + 1 < count { row + 1 } else { 0 }
-}
-
-// About 0.618 of the rows further: rows whose remainders meet part at the first hop.
-fn hop(row: usize, count: usize) -> usize
-    requires { row < count }
-    ensures { result ≡ hop count row }
-{
-    let stride = count / 2 + count / 8 - count / 128;
-    if row < count - stride {
-        return row + stride;
-    }
-    row - (count - stride)
-}
-
-// The next row of a search that has `left` rows more: hops, then every row.
+// The next row of a search that has `left` rows more: about 0.618 of the rows further, so that rows whose remainders meet part at the
+// first hop, and at the end one row further. In two branches: with one step for both a search through full memory takes a sixth more.
 fn onward(row: usize, count: usize, left: usize) -> usize
     requires { row < count }
     ensures { result ≡ onward count left row }
 {
     if left < count {
-        return next_row(row, count);
+        return if row + 1 < count { row + 1 } else { 0 };
     }
-    hop(row, count)
+    let stride = count / 2 + count / 8 - count / 128;
+    if row < count - stride {
+        row + stride
+    } else {
+        row - (count - stride)
+    }
 }
 
 // How many rows a search looks at: the hops first, where there are as many rows.
@@ -98,27 +96,36 @@ fn tries(count: usize) -> usize
 }
 
 // The row of an address, or one that it can take.
-#[tactic(auto, using(crate::proofs::Search::seek_none, crate::proofs::Search::seek_empty, crate::proofs::Search::seek_match, crate::proofs::Search::seek_on, crate::proofs::Search::seek_full))]
+#[tactic(auto, using(crate::proofs::Seek::seek_none, crate::proofs::Seek::seek_empty, crate::proofs::Seek::seek_match, crate::proofs::Seek::seek_on, crate::proofs::Seek::seek_full))]
 pub fn find(rows: &[u8], address: u32) -> Found
     ensures { result ≡ row_of rows.now address }
 {
-    let count = rows.len() / ROW_BYTES;
+    let (whole, _) = rows.as_chunks::<ROW_BYTES>();
+    let count = whole.len();
     if count == 0 {
         return Found::Full;
     }
-    let mut row = (address as usize) % count;
-    let mut left = tries(count);
-    while 0 < left {
-        let seen = probe_row(rows, row, address);
-        match seen {
+    // `usize` has no `From` of `u32`.
+    let mut row = address as usize % count;
+    for left in (0..tries(count)).rev() {
+        match probe_row(&whole[row], address) {
             Probe::Empty => return Found::Free(row),
             Probe::Match => return Found::At(row),
-            Probe::Other => {}
+            Probe::Other => row = onward(row, count, left),
         }
-        left -= 1;
-        row = onward(row, count, left);
     }
     Found::Full
+}
+
+// The row that an address has.
+#[tactic(auto, using(crate::proofs::Seek::found_inside, crate::proofs::Seek::found_row), unfolding(crate::specs::Rows::written))]
+fn written(rows: &[u8], address: u32) -> Option<&Row>
+    ensures { option_copied result ≡ written rows.now address }
+{
+    match find(rows, address) {
+        Found::At(row) => Some(&rows.as_chunks::<ROW_BYTES>().0[row]),
+        Found::Free(_) | Found::Full => None,
+    }
 }
 
 // Byte `place` of a number, to be stored.
@@ -128,277 +135,208 @@ fn stored_byte(number: u32, place: u32) -> u8
     byte_of(number, place) as u8
 }
 
-fn mark(known: bool) -> u8
-    ensures { result ≡ (if known then 1 else 0) }
+fn write_head(row: &mut [u8], known: bool, uniform: bool, address: u32)
+    requires { head_bytes ≤ length row.old }
+    ensures { row.new ≡ sets row.old 0 (head_of known uniform address) }
 {
-    if known { 1 } else { 0 }
+    row[USED] = 1;
+    row[KNOWN] = u8::from(known);
+    row[UNIFORM] = u8::from(uniform);
+    row[ZERO] = 0;
+    little_endian::put(row, ADDRESS, address);
 }
 
-fn write_head(rows: &mut [u8], at: usize, known: bool, uniform: bool, address: u32)
-    requires { at + head_bytes ≤ length rows.old }
-    ensures { rows.new ≡ sets rows.old at (head_of known uniform address) }
-{
-    rows[at] = 1;
-    rows[at + 1] = mark(known);
-    rows[at + 2] = mark(uniform);
-    rows[at + 3] = 0;
-    little_endian::put_u32(rows, at + 4, address);
+// What a store takes its bytes from: a word, or a number that is the same in all lanes.
+trait Stored {
+    // What the row of an address starts with for a byte, counted from the lowest.
+    ghost start: { Self → ℕ → ℕ → List ℕ };
+
+    // A slice and no `Row`: of a slice an array to be written comes only in an `Option`.
+    fn write(&self, row: &mut [u8], address: u32, place: u32)
+        requires { length row.old ≡ row_bytes }
+        ensures row { row.new ≡ sets row.old 0 (start self.now place address) }
+        ensures short { length (start self.now place address) ≤ row_bytes };
 }
 
-fn write_lanes(rows: &mut [u8], at: usize, values: [u32; LaneWord::LANES], place: u32)
-    requires { at + lanes ≤ length rows.old }
-    ensures { rows.new ≡ sets rows.old at (map (λ v. byte_of v place) values) }
-{
-    let mut k: usize = 0;
-    while k < LaneWord::LANES {
-        rows[at + k] = stored_byte(values[k], place);
-        k += 1;
+impl Stored for LaneWord {
+    ghost start = { λ word place address. lane_row address (word_byte place word) };
+
+    fn write(&self, row: &mut [u8], address: u32, place: u32) {
+        write_head(row, self.known, false, address);
+        for (lane, value) in self.values.iter().enumerate() {
+            row[HEAD_BYTES + lane] = stored_byte(*value, place);
+        }
     }
 }
 
-#[tactic(auto, unfolding(lane_word::specs::Word::unary))]
-fn write_row(rows: &mut [u8], row: usize, address: u32, word: LaneWord, place: u32)
-    requires { row * row_bytes + row_bytes ≤ length rows.old }
-    ensures { rows.new ≡ write_row rows.old row (lane_row address (word_byte place word)) }
+impl Stored for u32 {
+    ghost start = { λ number place address. value_row address (byte_of number place) };
+
+    fn write(&self, row: &mut [u8], address: u32, place: u32) {
+        write_head(row, true, true, address);
+        row[HEAD_BYTES] = stored_byte(*self, place);
+    }
+}
+
+// Store one byte; where it finds no row, it is not stored.
+#[tactic(auto, using(crate::proofs::Seek::at_inside, crate::proofs::Seek::free_inside), unfolding(crate::specs::Rows::store_row))]
+fn store_row<S: Stored>(rows: &mut [u8], address: u32, stored: &S, place: u32)
+    ensures { rows.new ≡ store_row rows.old address (S.start stored.now place address) }
 {
-    let at = row * ROW_BYTES;
-    write_head(rows, at, word.known, false, address);
-    let values = word.values;
-    write_lanes(rows, at + HEAD_BYTES, values, place);
+    match find(rows, address) {
+        Found::At(row) | Found::Free(row) => {
+            let at = row * ROW_BYTES;
+            stored.write(&mut rows[at..at + ROW_BYTES], address, place);
+        }
+        Found::Full => {}
+    }
+}
+
+// Store the lowest `width` bytes.
+#[tactic(auto, unfolding(crate::specs::Rows::store_rows))]
+fn store_rows<S: Stored>(rows: &mut [u8], address: u32, width: u32, stored: &S)
+    ensures { rows.new ≡ store_rows rows.old width address (λ k x. S.start stored.now k x) }
+{
+    for k in 0..width {
+        store_row(rows, address.wrapping_add(k), stored, k);
+    }
 }
 
 // Store byte `place` of a word; a byte that finds no row is not stored.
-#[tactic(auto, using(crate::proofs::HashTables::at_inside, crate::proofs::HashTables::free_inside), unfolding(crate::specs::Rows::store_row))]
 pub fn store_byte(rows: &mut [u8], address: u32, word: LaneWord, place: u32)
     ensures { rows.new ≡ store_byte rows.old address (word_byte place word) }
 {
-    let found = find(rows, address);
-    match found {
-        Found::At(row) => write_row(rows, row, address, word, place),
-        Found::Free(row) => write_row(rows, row, address, word, place),
-        Found::Full => {}
-    }
+    store_row(rows, address, &word, place);
 }
 
 // Store the lowest `width` bytes of a word.
-#[tactic(auto, unfolding(crate::specs::Rows::store_bytes, crate::specs::Rows::store_rows))]
+#[tactic(auto, unfolding(crate::specs::Rows::store_bytes))]
 pub fn store(rows: &mut [u8], address: u32, width: u32, word: LaneWord)
     ensures { rows.new ≡ store_bytes rows.old width address word }
 {
-    let mut k: u32 = 0;
-    while k < width {
-        store_byte(rows, std::num::wrapping_add_u32(address, k), word, k);
-        k += 1;
-    }
+    store_rows(rows, address, width, &word);
 }
 
-fn write_value(rows: &mut [u8], row: usize, address: u32, value: u8)
-    requires { row * row_bytes + row_bytes ≤ length rows.old }
-    ensures { rows.new ≡ write_row rows.old row (value_row address value) }
-{
-    let at = row * ROW_BYTES;
-    write_head(rows, at, true, true, address);
-    rows[at + HEAD_BYTES] = value;
-}
-
-// Store one value for all lanes; a byte that finds no row is not stored.
-#[tactic(auto, using(crate::proofs::HashTables::at_inside, crate::proofs::HashTables::free_inside), unfolding(crate::specs::Rows::store_row))]
-fn store_value_byte(rows: &mut [u8], address: u32, value: u8)
-    ensures { rows.new ≡ store_value rows.old address value }
-{
-    let found = find(rows, address);
-    match found {
-        Found::At(row) => write_value(rows, row, address, value),
-        Found::Free(row) => write_value(rows, row, address, value),
-        Found::Full => {}
-    }
-}
-
-// Store the lowest `width` bytes of a number that is the same in all lanes.
-#[tactic(auto, unfolding(crate::specs::Rows::store_values, crate::specs::Rows::store_rows))]
+// Store the lowest `width` bytes of a number that is the same in all lanes. Two public functions, since the definitions are of a word and of a number.
+#[tactic(auto, unfolding(crate::specs::Rows::store_values))]
 pub fn store_value(rows: &mut [u8], address: u32, width: u32, value: u32)
     ensures { rows.new ≡ store_values rows.old width address value }
 {
-    let mut k: u32 = 0;
-    while k < width {
-        store_value_byte(
-            rows,
-            std::num::wrapping_add_u32(address, k),
-            stored_byte(value, k),
-        );
-        k += 1;
-    }
+    store_rows(rows, address, width, &value);
 }
 
-fn is_new(rows: &[u8], address: u32) -> u32
-    ensures { result ≡ new_at (row_of rows.now address) }
-{
-    let found = find(rows, address);
-    match found {
-        Found::At(_) => 0,
-        Found::Free(_) => 1,
-        Found::Full => 1,
-    }
-}
-
-// How many of the `width` bytes from `address` on have no row yet.
+// How many of the `width` bytes from `address` on have no row yet: a sum, since `count` gives no `u32`.
 #[tactic(auto, unfolding(crate::specs::Rows::new_bytes))]
 pub fn new_bytes(rows: &[u8], address: u32, width: u32) -> u32
     ensures { result ≡ new_bytes rows.now width address }
 {
-    let mut new: u32 = 0;
-    let mut k: u32 = 0;
-    while k < width {
-        new += is_new(rows, std::num::wrapping_add_u32(address, k));
-        k += 1;
+    let mut new = 0;
+    for k in 0..width {
+        new += u32::from(written(rows, address.wrapping_add(k)).is_none());
     }
     new
 }
 
-fn wide(x: u8) -> u32
-    ensures { result ≡ x }
+#[tactic(auto, using(lane_word::proofs::Lanewise::done_start, lane_word::proofs::Lanewise::done_step))]
+fn read_lanes(row: &Row) -> LaneWord
+    ensures { result ≡ lane_byte row.now }
 {
-    x as u32
-}
-
-#[tactic(auto, using(crate::proofs::RowBytes::row_values))]
-fn read_lanes(rows: &[u8], row: usize) -> LaneWord
-    requires { row * row_bytes + row_bytes ≤ length rows.now }
-    ensures { result ≡ lane_byte (row_at rows.now row) }
-{
-    let at = row * ROW_BYTES;
-    let first = at + HEAD_BYTES;
-    let mut values = [0u32; LaneWord::LANES];
-    let mut k: usize = 0;
-    while k < LaneWord::LANES {
-        values[k] = wide(rows[first + k]);
-        k += 1;
+    let mut values = [0; LaneWord::LANES];
+    for (lane, value) in values.iter_mut().enumerate() {
+        *value = u32::from(row[HEAD_BYTES + lane]);
     }
     LaneWord {
         values,
-        known: rows[at + 1] != 0,
+        known: row[KNOWN] != 0,
     }
 }
 
-#[tactic(auto, unfolding(lane_word::specs::Word::constant))]
-fn every_lane(value: u8) -> LaneWord
-    ensures { result ≡ constant lanes value }
+fn told_row(row: &Row) -> Option<u32>
+    ensures { result ≡ told_row row.now }
 {
-    LaneWord {
-        values: [wide(value); LaneWord::LANES],
-        known: true,
+    if row[UNIFORM] == 0 {
+        return None;
     }
+    Some(u32::from(row[HEAD_BYTES]))
 }
 
-#[tactic(auto, using(crate::proofs::RowBytes::row_at_place))]
-fn read_row(rows: &[u8], row: usize) -> LaneWord
-    requires { row * row_bytes + row_bytes ≤ length rows.now }
-    ensures { result ≡ row_byte (row_at rows.now row) }
+fn read_row(row: &Row) -> LaneWord
+    ensures { result ≡ row_byte row.now }
 {
-    let at = row * ROW_BYTES;
-    if rows[at + 2] == 0 {
-        return read_lanes(rows, row);
+    match told_row(row) {
+        Some(value) => LaneWord::constant(value),
+        None => read_lanes(row),
     }
-    every_lane(rows[at + HEAD_BYTES])
 }
 
 // The byte at an address: the written one, or `other` in every lane.
-#[tactic(auto, using(crate::proofs::HashTables::at_inside), unfolding(crate::specs::Rows::load_byte))]
+#[tactic(auto, unfolding(crate::specs::Rows::load_byte))]
 pub fn load_byte(rows: &[u8], address: u32, other: u8) -> LaneWord
     ensures { result ≡ load_byte rows.now address other }
 {
-    let found = find(rows, address);
-    match found {
-        Found::At(row) => read_row(rows, row),
-        Found::Free(_) => every_lane(other),
-        Found::Full => every_lane(other),
+    match written(rows, address) {
+        Some(row) => read_row(row),
+        None => LaneWord::constant(u32::from(other)),
     }
-}
-
-#[tactic(auto, using(crate::proofs::RowBytes::row_at_place))]
-fn told_row(rows: &[u8], row: usize) -> Told
-    requires { row * row_bytes + row_bytes ≤ length rows.now }
-    ensures { result ≡ told_row (row_at rows.now row) }
-{
-    let at = row * ROW_BYTES;
-    if rows[at + 2] == 0 {
-        return Told::Lanes;
-    }
-    Told::Value(wide(rows[at + HEAD_BYTES]))
 }
 
 // The byte at an address where one value is told for all lanes: no lane is compared.
-#[tactic(auto, using(crate::proofs::HashTables::at_inside), unfolding(crate::specs::Rows::told_byte))]
-pub fn told_byte(rows: &[u8], address: u32, other: u8) -> Told
+#[tactic(auto, unfolding(crate::specs::Rows::told_byte))]
+pub fn told_byte(rows: &[u8], address: u32, other: u8) -> Option<u32>
     ensures { result ≡ told_byte rows.now address other }
 {
-    let found = find(rows, address);
-    match found {
-        Found::At(row) => told_row(rows, row),
-        Found::Free(_) => Told::Value(wide(other)),
-        Found::Full => Told::Value(wide(other)),
+    match written(rows, address) {
+        Some(row) => told_row(row),
+        None => Some(u32::from(other)),
+    }
+}
+
+// The number that `low` gives of each lane below the lane's value above it.
+#[tactic(auto, using(lane_word::proofs::Lanewise::done_start, crate::proofs::Laws::joined_none))]
+fn join_each<F: Fn(usize) -> u32>(low: F, values: &mut [u32])
+    requires { (lane : ℕ) → lane < lanes → F.pre low lane }
+    ensures { (b : LaneWord) → GivesLanes (F.post low) b → values.new ≡ joined b values.old }
+{
+    if values.len() != LaneWord::LANES {
+        return;
+    }
+    for (lane, value) in values.iter_mut().enumerate() {
+        *value = join(low(lane), *value);
     }
 }
 
 // A number below each lane's value above it.
-#[tactic(auto, using(crate::proofs::Laws::joined_none))]
 pub fn join_value(low: u32, values: &mut [u32])
     ensures { values.new ≡ joined (constant lanes low) values.old }
 {
-    if values.len() != LaneWord::LANES {
-        return;
-    }
-    let mut k: usize = 0;
-    while k < LaneWord::LANES {
-        values[k] = join(low, values[k]);
-        k += 1;
-    }
+    join_each(|_| low, values);
 }
 
-#[tactic(auto, using(crate::proofs::Laws::joined_none))]
-fn join_lanes(rows: &[u8], row: usize, values: &mut [u32])
-    requires { row * row_bytes + row_bytes ≤ length rows.now }
-    ensures { values.new ≡ joined (lane_byte (row_at rows.now row)) values.old }
+#[tactic(auto, unfolding(lane_word::specs::Word::constant))]
+fn join_row(row: &Row, values: &mut [u32]) -> bool
+    ensures { Joined (row_byte row.now) values.old result values.new }
 {
-    if values.len() != LaneWord::LANES {
-        return;
-    }
-    let first = row * ROW_BYTES + HEAD_BYTES;
-    let mut k: usize = 0;
-    while k < LaneWord::LANES {
-        values[k] = join(wide(rows[first + k]), values[k]);
-        k += 1;
+    match told_row(row) {
+        Some(value) => {
+            join_value(value, values);
+            true
+        }
+        None => {
+            join_each(|lane| u32::from(row[HEAD_BYTES + lane]), values);
+            row[KNOWN] != 0
+        }
     }
 }
 
-#[tactic(auto, using(crate::proofs::RowBytes::row_at_place), unfolding(lane_word::specs::Word::constant))]
-fn join_row(rows: &[u8], row: usize, values: &mut [u32]) -> bool
-    requires { row * row_bytes + row_bytes ≤ length rows.now }
-    ensures { Joined (row_byte (row_at rows.now row)) values.old result values.new }
-{
-    let at = row * ROW_BYTES;
-    if rows[at + 2] == 0 {
-        join_lanes(rows, row, values);
-        return rows[at + 1] != 0;
-    }
-    join_value(wide(rows[at + HEAD_BYTES]), values);
-    true
-}
-
-// The byte at an address below the values above it, in their place; whether the byte is known.
-#[tactic(auto, using(crate::proofs::HashTables::at_inside), unfolding(crate::specs::Rows::load_byte, lane_word::specs::Word::constant))]
+// The byte at an address below the values above it, in their place; whether the byte is known. A lane word handed over would be copied for each byte.
+#[tactic(auto, unfolding(crate::specs::Rows::load_byte, lane_word::specs::Word::constant))]
 pub fn join_values(rows: &[u8], address: u32, other: u8, values: &mut [u32]) -> bool
     ensures { Joined (load_byte rows.now address other) values.old result values.new }
 {
-    let found = find(rows, address);
-    match found {
-        Found::At(row) => join_row(rows, row, values),
-        Found::Free(_) => {
-            join_value(wide(other), values);
-            true
-        }
-        Found::Full => {
-            join_value(wide(other), values);
+    match written(rows, address) {
+        Some(row) => join_row(row, values),
+        None => {
+            join_value(u32::from(other), values);
             true
         }
     }
@@ -409,23 +347,16 @@ pub fn join_values(rows: &[u8], address: u32, other: u8, values: &mut [u32]) -> 
 pub fn unmark(rows: &mut [u8])
     ensures { rows.new ≡ unmarked rows.old }
 {
-    let count = rows.len() / ROW_BYTES;
-    let mut row: usize = 0;
-    while row < count {
+    // By index: nothing is known of what the pieces of `chunks_exact_mut` leave.
+    for row in 0..rows.len() / ROW_BYTES {
         rows[row * ROW_BYTES] = 0;
-        row += 1;
     }
 }
 
 // Zero in every whole row.
-#[tactic(auto, using(crate::proofs::Loops::zeros_exit))]
 pub fn clear(rows: &mut [u8])
     ensures { rows.new ≡ cleared rows.old }
 {
     let end = rows.len() / ROW_BYTES * ROW_BYTES;
-    let mut at: usize = 0;
-    while at < end {
-        rows[at] = 0;
-        at += 1;
-    }
+    rows[..end].fill(0);
 }

@@ -1,4 +1,5 @@
 -- From what the parts of the reader and the writer ensure to what the whole answers and leaves. Assumes nothing.
+use Rattle.std.specs.Prelude.{Err, Ok}
 use mathlib.Core.Path.{◌≡◌, refl, ap, sym, ◌∙◌, subst}
 use mathlib.Core.Bool.{Bool, true, false, cond, ◌&&◌, and-false}
 use mathlib.Core.Option.{Option, none, some}
@@ -20,14 +21,14 @@ use Rattle.predicate_semantics.specs.Program.{stop}
 use Rattle.predicate_trace.specs.Trace.{entry_bytes, step_values, trace_bytes, steps_at}
 use Rattle.predicate_trace.proofs.TraceLaws.{length_trace}
 use Rattle.predicate_answer.specs.declared.RecordRefusal.{RecordRefusal}
-use Rattle.predicate_answer.specs.declared.RecordAnswer.TheVariants as answer
-use Rattle.lane_record.specs.declared.ReadAnswer.TheVariants as read
-use Rattle.lane_record.specs.declared.RecordReading.{RecordReading}
-use Rattle.lane_record.specs.declared.WriteAnswer.TheVariants as write
+use Rattle.predicate_answer.specs.declared.RecordOutcome.{RecordOutcome}
+use Rattle.predicate_answer.specs.Outcome.{refused_outcome}
+use Rattle.lane_record.specs.declared.ReadError.TheVariants as read
+use Rattle.lane_record.specs.declared.WriteError.TheVariants as write
 use Rattle.lane_record.specs.Format.{heading, event, step, refusal, kind_byte, size, item, items, Record, accepted, refused, execution_values, event_values, encode, FitsRecord}
 use Rattle.lane_record.specs.Rules.{execution_valid, linked, refusal_valid, valid}
-use Rattle.lane_record.specs.Decode.{execution_at, events_at, refusal_at, steps_from, accepted_at, items_are, accepted_form, ruled, refused_in, accepted_in, decode_record}
-use Rattle.lane_record.specs.Answers.{Said, wrote, refuses, refused_reading, nothing_read, Reads, Exact, accepted_given, given_accepted, Writes}
+use Rattle.lane_record.specs.Decode.{execution_at, events_at, refusal_at, steps_from, accepted_at, accepted_form, ruled, refused_in, accepted_in, decode_record}
+use Rattle.lane_record.specs.Answers.{Said, wrote, refuses, Reads, Exact, accepted_given, given_accepted, Writes}
 use Rattle.lane_record.proofs.TestLaws.{both, always}
 use Rattle.lane_record.proofs.DecodeLaws.{length_events_at, length_steps_at, decode_encode, rules, form, decode_same, decode_only}
 
@@ -69,20 +70,12 @@ module _ (e : PredicateTransducerExecution) (bs : List ℕ) where
   abbrev steps_in : List PredicateControlStep
   steps_in = steps_at 1 e.symbolic_transitions (drop (steps_from e) bs)
 
-  -- the tests in the code's order
-  pub form_no : (length bs ≡ steps_from e + e.symbolic_transitions * size step → ⊥) → false ≡ (accepted_form e bs && valid (accepted_at e bs))
-  form_no h = rw (ne_eqb _ _ h)
-
-  pub form_is : length bs ≡ steps_from e + e.symbolic_transitions * size step
-      → (eqb (get_or bs 0 0) (kind_byte heading) && items_are event e.event_count (drop (size heading) bs) && items_are step e.symbolic_transitions (drop (steps_from e) bs)
-      && (execution_valid e && linked stop steps_in))
-      ≡ (accepted_form e bs && valid (accepted_at e bs))
-  form_is h =
-      rw (
-        eq-eqb _ _ h,
-        always (execution_valid e) (linked stop steps_in)
-            (eq-eqb _ _ (length_events_at e.event_count (drop (size heading) bs))) (eq-eqb _ _ (length_steps_at 1 e.symbolic_transitions (drop (steps_from e) bs))),
-      )
+  -- the rules but those that hold of what is read, whatever the bytes
+  pub valid_linked : execution_valid e ≡ true → linked stop steps_in ≡ valid (accepted_at e bs)
+  valid_linked v =
+      sym (always (execution_valid e) (linked stop steps_in)
+      (eq-eqb _ _ (length_events_at e.event_count (drop (size heading) bs))) (eq-eqb _ _ (length_steps_at 1 e.symbolic_transitions (drop (steps_from e) bs)))
+      ∙ ap (λ (w : Bool). w && linked stop steps_in) v)
 
   accepted_out : (accepted_form e bs && valid (accepted_at e bs)) ≡ false → accepted_in e bs ≡ none
   accepted_out w = ap (λ (t : Bool). ruled t (accepted_at e bs)) w
@@ -92,18 +85,20 @@ module _ (e : PredicateTransducerExecution) (bs : List ℕ) where
 
 -- ---- what the reader answers
 module _ (q : Option Record) (t : List ℕ) where
-  pub reads_broken : {r : RecordReading} → q ≡ none → r ≡ nothing_read read.RulesBroken → Reads q t r t
-  reads_broken p e = rw (p, e) (record { answer = refl; outcome = refl; trace = refl })
+  pub reads_broken : q ≡ none → Reads q t (Err read.RulesBroken) t
+  reads_broken p = rw p (record { answer = refl; outcome = tt; trace = refl })
 
-  pub reads_refused : {r : RecordReading} (f : RecordRefusal) → q ≡ some (refused f) → r ≡ refused_reading read.Read f → Reads q t r t
-  reads_refused f p e = rw (p, e) (record { answer = refl; outcome = refl; trace = refl })
+  pub reads_refused : {o : RecordOutcome} (f : RecordRefusal) → q ≡ some (refused f) → o ≡ refused_outcome f → Reads q t (Ok o) t
+  reads_refused f p e = rw p (record { answer = refl; outcome = e; trace = refl })
 
 -- where they fail, 15; where they pass and the trace is short, 14
 module _ (e : PredicateTransducerExecution) (bs : List ℕ) where
-  pub reads_not : (t : List ℕ) {r : RecordReading} (formed : Bool) → (accepted_form e bs && valid (accepted_at e bs)) ≡ formed
-      → (formed && leb (e.symbolic_transitions * entry_bytes) (length t)) ≡ false → r ≡ nothing_read (cond formed read.TraceTooShort read.RulesBroken) → Reads (accepted_in e bs) t r t
-  reads_not t false w l p = reads_broken (accepted_in e bs) t (accepted_out e bs w) p
-  reads_not t true w l p = rw (accepted_in_law e bs w, p) (record { answer = rw l; outcome = rw l; trace = rw l })
+  pub reads_not : (t : List ℕ) → (accepted_form e bs && valid (accepted_at e bs)) ≡ false → Reads (accepted_in e bs) t (Err read.RulesBroken) t
+  reads_not t w = reads_broken (accepted_in e bs) t (accepted_out e bs w)
+
+  pub reads_short : (t : List ℕ) → (accepted_form e bs && valid (accepted_at e bs)) ≡ true → length t < e.symbolic_transitions * entry_bytes
+      → Reads (accepted_in e bs) t (Err read.TraceTooShort) t
+  reads_short t w l = rw (accepted_in_law e bs w) (record { answer = rw (lt-leb _ _ l); outcome = tt; trace = rw (lt-leb _ _ l) })
 
 -- where the tests of an accepted record pass
 module _ (e : PredicateTransducerExecution) (bs : List ℕ) (w : (accepted_form e bs && valid (accepted_at e bs)) ≡ true) where
@@ -118,7 +113,7 @@ module _ (e : PredicateTransducerExecution) (bs : List ℕ) (w : (accepted_form 
 
   pub reads_done : (t : List ℕ) {t' : List ℕ} {list : List CompiledMmioEvent} → e.symbolic_transitions * entry_bytes ≤ length t
       → list ≡ sets no_events 0 (events_at e.event_count (drop (size heading) bs)) → t' ≡ sets t 0 (trace_bytes (steps_in e bs))
-      → Reads (accepted_in e bs) t (record { answer = read.Read; outcome = record { answer = answer.Accepted; execution = e; events = list } }) t'
+      → Reads (accepted_in e bs) t (Ok (record { answer = (Ok tt); execution = e; events = list })) t'
   reads_done t l p q =
       let m : length (events_at e.event_count (drop (size heading) bs)) ≤ max_events = rw length_events_at events_fit in
       let n : length (trace_bytes (steps_in e bs)) ≤ length t = rw (length_trace, length_steps_at) l in
@@ -141,14 +136,14 @@ module _ (bs : List ℕ) where
 
 -- ---- what the writer answers
 module _ (q : Option Record) (out : List ℕ) where
-  pub writes_broken : q ≡ none → Writes q out write.RulesBroken out
+  pub writes_broken : q ≡ none → Writes q out (Err write.RulesBroken) out
   writes_broken p = rw p (record { answer = refl; output = refl; back = λ x e. let z : ◌≡◌ {A = ℕ} 0 1 = cc in absurd (omega arith) })
 
   module _ (x : Record) (p : q ≡ some x) where
     same : (y : Record) → some x ≡ some y → x ≡ y
     same y e = cc
 
-    pub writes_full : length out < length (encode x) → Writes q out write.OutputTooShort out
+    pub writes_full : length out < length (encode x) → Writes q out (Err write.OutputTooShort) out
     writes_full l =
         let n : leb (length (encode x)) (length out) ≡ false = lt-leb _ _ l in
         rw p
@@ -159,7 +154,7 @@ module _ (q : Option Record) (out : List ℕ) where
         })
 
     pub writes_done : {out' : List ℕ} {n : ℕ} → n ≡ length (encode x) → length (encode x) ≤ length out → (valid x ≡ true) × FitsRecord x → out' ≡ over (encode x) out
-        → Writes q out (write.Written n) out'
+        → Writes q out (Ok n) out'
     writes_done {out'} {n} en l f o =
         let m : leb (length (encode x)) (length out) ≡ true = le-leb _ _ l in
         rw p

@@ -1,4 +1,4 @@
--- Document 01's record and the table of ranges, by computation. Assumes nothing.
+-- The worked record and the table of ranges, by computation. Assumes nothing.
 use mathlib.Core.Path.{refl}
 use Rattle.lane_record.specs.Decode.{decode_record}
 use Rattle.lane_record.specs.Cases.{RangesTaken, RangesBroken, WorkedRecord}

@@ -19,7 +19,7 @@ use Rattle.lane_word.specs.declared.InputRange.{InputRange}
 use Rattle.lane_word.specs.Range.{input_count}
 use Rattle.predicate_semantics.specs.Program.{Program}
 use Rattle.predicate_answer.specs.Blank.{max_events, no_events}
-use Rattle.predicate_semantics.specs.State.{Result}
+use Rattle.predicate_semantics.specs.State.{RunResult}
 use Rattle.predicate_semantics.specs.Tested.{Tested, passed}
 use Rattle.predicate_answer.specs.Refusal.{RunRefusal, of_run, of_call, refusal_after}
 use Rattle.predicate_semantics.specs.Lane.{LaneState, Setup, Ended}
@@ -82,7 +82,7 @@ module _ (c : Call) where
   abbrev s : LaneState
   s = e.state
 
-  module _ (byte : range.last < lanes) (r : Result) (q : e.answer ≡ passed r) where
+  module _ (byte : range.last < lanes) (r : RunResult) (q : e.answer ≡ passed r) where
     ended : Accepted l s r
     unfolding run_of
     ended = Rules.accepted p l max_steps r q
@@ -129,7 +129,7 @@ module _ (c : Call) where
   unfolding run_of proper
   kept_refused q h = yes {t = proper q} (holds (proper q) (refused_proper p l max_steps (of_run q) h)) (le-leb s.steps max_steps (omega (arith, done.bound)))
 
-  kept : range.last < lanes → (a : Tested Result) → e.answer ≡ a → (t : List ℕ) → given (outcome_in c s a) (over (trace_bytes s.trace) t) ≡ record_in c s a
+  kept : range.last < lanes → (a : Tested RunResult) → e.answer ≡ a → (t : List ℕ) → given (outcome_in c s a) (over (trace_bytes s.trace) t) ≡ record_in c s a
   kept byte (passed r) q t = kept_accepted byte r q t
   kept byte (Tested.refused (of_run f)) q t = ap (λ (w : Bool). ruled w (refused (refusal_after f s.steps))) (kept_refused f q)
   kept byte (Tested.refused (of_call x)) q t = refl

@@ -1,4 +1,5 @@
 -- What is written reads back as itself, and what is read is written again byte for byte. Assumes nothing.
+use Rattle.std.specs.Prelude.{Err, Ok, Result}
 use mathlib.Core.Path.{◌≡◌, refl, ap, ◌∙◌, subst}
 use mathlib.Core.Bool.{Bool, true, false, cond, ◌&&◌}
 use mathlib.Core.Option.{Option, none, some}
@@ -20,8 +21,6 @@ use Rattle.predicate_answer.specs.Blank.{no_events}
 use Rattle.predicate_trace.specs.Trace.{entry_bytes, step_widths, step_values, trace_bytes, steps_at}
 use Rattle.predicate_trace.proofs.TraceLaws.{length_trace, trace_back}
 use Rattle.predicate_answer.specs.declared.RecordRefusal.{RecordRefusal}
-use Rattle.predicate_answer.specs.declared.RecordAnswer.{RecordAnswer}
-use Rattle.predicate_answer.specs.declared.RecordAnswer.TheVariants as answer
 use Rattle.predicate_answer.specs.declared.RecordOutcome.{RecordOutcome}
 use Rattle.lane_record.specs.Format.{step, widths, Record, accepted, refused, encode, FitsRecord}
 use Rattle.lane_record.specs.Rules.{link, linked, valid}
@@ -76,16 +75,16 @@ given_accepted_law e es t x g =
 given_refused_law : (f : RecordRefusal) (x : Record) → given_refused f ≡ some x → (valid (refused f) ≡ true) × (refused f ≡ x)
 given_refused_law f x g = ruled_some (valid (refused f)) (refused f) x g
 
-given_valid : (a : RecordAnswer) (e : PredicateTransducerExecution) (es : List CompiledMmioEvent) (t : List ℕ) (x : Record) → given_by a e es t ≡ some x
+given_valid : (a : Result (Unit {0}) RecordRefusal) (e : PredicateTransducerExecution) (es : List CompiledMmioEvent) (t : List ℕ) (x : Record) → given_by a e es t ≡ some x
     → valid x ≡ true
-given_valid answer.Accepted e es t x g = let u = given_accepted_law e es t x g in subst (λ (y : Record). valid y ≡ true) u.2 u.1
-given_valid (answer.Refused f) e es t x g = let u = given_refused_law f x g in subst (λ (y : Record). valid y ≡ true) u.1 u.0
+given_valid (Ok tt) e es t x g = let u = given_accepted_law e es t x g in subst (λ (y : Record). valid y ≡ true) u.2 u.1
+given_valid (Err f) e es t x g = let u = given_refused_law f x g in subst (λ (y : Record). valid y ≡ true) u.1 u.0
 
-given_fits : (a : RecordAnswer) (e : PredicateTransducerExecution) (es : List CompiledMmioEvent) (t : List ℕ) (x : Record) → given_by a e es t ≡ some x
+given_fits : (a : Result (Unit {0}) RecordRefusal) (e : PredicateTransducerExecution) (es : List CompiledMmioEvent) (t : List ℕ) (x : Record) → given_by a e es t ≡ some x
     → FitsBy a e es → AllBytes t → FitsRecord x
-given_fits answer.Accepted e es t x g f b =
+given_fits (Ok tt) e es t x g f b =
     let u = given_accepted_law e es t x g in subst FitsRecord u.2 (f.0, f.1, steps_fit 0 e.symbolic_transitions t b u.0)
-given_fits (answer.Refused r) e es t x g f b = subst FitsRecord (given_refused_law r x g).1 f
+given_fits (Err r) e es t x g f b = subst FitsRecord (given_refused_law r x g).1 f
 
 -- the bytes that the writer wrote are those of the record that it was given
 wrote_bytes : (x : Record) (out : List ℕ) (n : ℕ) (w : Bool) → cond {A = Said} w (wrote (length (encode x))) (refuses 16) ≡ wrote n
@@ -99,10 +98,10 @@ wrote_given none out n e = let z : ◌≡◌ {A = ℕ} 0 1 = cc in absurd (omega
 wrote_given (some x) out n e = (x, refl, wrote_bytes x out n (leb (length (encode x)) (length out)) e)
 
 -- of that record the reader gives what counts of the outcome, and the entries
-given_read : (a : RecordAnswer) (e : PredicateTransducerExecution) (es : List CompiledMmioEvent) (t t2 : List ℕ) {x : Record} → given_by a e es t ≡ some x
+given_read : (a : Result (Unit {0}) RecordRefusal) (e : PredicateTransducerExecution) (es : List CompiledMmioEvent) (t t2 : List ℕ) {x : Record} → given_by a e es t ≡ some x
     → AllBytes t → length (entries_by a e t) ≤ length t2
     → (read_answer (some x) (length t2) ≡ done) × (read_outcome (some x) (length t2) ≡ what_counts_by a e es) × (read_trace (some x) t2 ≡ over (entries_by a e t) t2)
-given_read answer.Accepted e es t t2 {x} g b l =
+given_read (Ok tt) e es t t2 {x} g b l =
     let u = given_accepted_law e es t x g in
     let n = le-leb (e.symbolic_transitions * entry_bytes) (length t2) (omega (arith, length-take-le (e.symbolic_transitions * entry_bytes) t u.0)) in
     subst (λ (y : Record).
@@ -110,7 +109,7 @@ given_read answer.Accepted e es t t2 {x} g b l =
     × (read_outcome (some y) (length t2) ≡ accepted_outcome e (take e.event_count es))
     × (read_trace (some y) t2 ≡ over (take (e.symbolic_transitions * entry_bytes) t) t2))
     u.2 (rw n, rw n, rw (n, entries_same e.symbolic_transitions t b u.0))
-given_read (answer.Refused f) e es t t2 {x} g b l =
+given_read (Err f) e es t t2 {x} g b l =
     subst (λ (y : Record).
     (read_answer (some y) (length t2) ≡ done) × (read_outcome (some y) (length t2) ≡ refused_outcome f) × (read_trace (some y) t2 ≡ t2))
     (given_refused_law f x g).1 (refl, refl, refl)

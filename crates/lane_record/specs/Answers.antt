@@ -1,5 +1,5 @@
 -- What the writer and the reader answer and leave, for every input and every lent byte (Record; Who causes a refusal).
-use Rattle.std.specs.Prelude.{◌≡◌, true, cond, ◌&&◌, List, ℕ, ◌*◌, ◌≤◌, leb, length, take}
+use Rattle.std.specs.Prelude.{◌≡◌, true, cond, ◌&&◌, List, ℕ, ◌*◌, ◌≤◌, leb, length, take, Err, Ok, Result, IfOk}
 use Rattle.std.proofs.Math.Option.{Option, none, some}
 use Rattle.little_endian.specs.Lent.{over}
 use Rattle.predicate_answer.specs.declared.CompiledMmioEvent.{CompiledMmioEvent}
@@ -7,44 +7,38 @@ use Rattle.predicate_answer.specs.declared.PredicateTransducerExecution.{Predica
 use Rattle.predicate_answer.specs.Outcome.{accepted_outcome, refused_outcome, no_outcome}
 use Rattle.predicate_trace.specs.Trace.{entry_bytes, trace_bytes, steps_at}
 use Rattle.predicate_answer.specs.declared.RecordRefusal.{RecordRefusal}
-use Rattle.predicate_answer.specs.declared.RecordAnswer.{RecordAnswer}
-use Rattle.predicate_answer.specs.declared.RecordAnswer.TheVariants as answer
 use Rattle.predicate_answer.specs.declared.RecordOutcome.{RecordOutcome}
-use Rattle.lane_record.specs.declared.ReadAnswer.{ReadAnswer}
-use Rattle.lane_record.specs.declared.ReadAnswer.TheVariants as read
-use Rattle.lane_record.specs.declared.RecordReading.{RecordReading}
-use Rattle.lane_record.specs.declared.WriteAnswer.{WriteAnswer}
-use Rattle.lane_record.specs.declared.WriteAnswer.TheVariants as write
+use Rattle.lane_record.specs.declared.ReadError.{ReadError}
+use Rattle.lane_record.specs.declared.ReadError.TheVariants as read
+use Rattle.lane_record.specs.declared.WriteError.{WriteError}
+use Rattle.lane_record.specs.declared.WriteError.TheVariants as write
 use Rattle.lane_record.specs.Format.{Record, accepted, refused, encode, FitsRecord}
 use Rattle.lane_record.specs.Rules.{valid}
 use Rattle.lane_record.specs.Decode.{ruled, decode_record}
 
--- an answer in document 01's numbers: done, so many bytes written, or refused with a number
+-- an answer by its number: done, so many bytes written, or refused with a number
 pub data Said : Type 0 where
   done : Said
   wrote : ℕ → Said
   refuses : ℕ → Said
 
--- the reader's answers by their numbers
-abbrev pub read_said : ReadAnswer → Said
-read_said read.Read = done
-read_said read.RulesBroken = refuses 15
-read_said read.TraceTooShort = refuses 14
+-- the errors by their numbers
+abbrev pub read_number : ReadError → ℕ
+read_number read.RulesBroken = 15
+read_number read.TraceTooShort = 14
 
--- the writer's answers by their numbers
-abbrev pub write_said : WriteAnswer → Said
-write_said (write.Written n) = wrote n
-write_said write.RulesBroken = refuses 15
-write_said write.OutputTooShort = refuses 16
+abbrev pub write_number : WriteError → ℕ
+write_number write.RulesBroken = 15
+write_number write.OutputTooShort = 16
 
--- ---- results
+-- what the reader says, and what the writer says
+abbrev pub read_said : Result RecordOutcome ReadError → Said
+read_said (Ok o) = done
+read_said (Err e) = refuses (read_number e)
 
-abbrev pub refused_reading : ReadAnswer → RecordRefusal → RecordReading
-refused_reading a f = record { answer = a; outcome = refused_outcome f }
-
--- where nothing is read, there is no outcome
-abbrev pub nothing_read : ReadAnswer → RecordReading
-nothing_read a = record { answer = a; outcome = no_outcome }
+abbrev pub write_said : Result ℕ WriteError → Said
+write_said (Ok n) = wrote n
+write_said (Err e) = refuses (write_number e)
 
 -- ---- reading
 
@@ -66,9 +60,9 @@ read_trace none t = t
 read_trace (some (refused f)) t = t
 read_trace (some (accepted e es ss)) t = cond (leb (e.symbolic_transitions * entry_bytes) (length t)) (over (trace_bytes ss) t) t
 
-pub record Reads (q : Option Record) (t : List ℕ) (r : RecordReading) (t' : List ℕ) : Type 0 where
-  pub answer : read_said r.answer ≡ read_answer q (length t)
-  pub outcome : r.outcome ≡ read_outcome q (length t)
+pub record Reads (q : Option Record) (t : List ℕ) (r : Result RecordOutcome ReadError) (t' : List ℕ) : Type 0 where
+  pub answer : read_said r ≡ read_answer q (length t)
+  pub outcome : IfOk r (λ o. o ≡ read_outcome q (length t))
   pub trace : t' ≡ read_trace q t
 
 -- the reader takes bytes exactly where they are those of a record that keeps the rules
@@ -90,9 +84,9 @@ given_accepted e es t =
 abbrev pub given_refused : RecordRefusal → Option Record
 given_refused f = ruled (valid (refused f)) (refused f)
 
-abbrev pub given_by : RecordAnswer → PredicateTransducerExecution → List CompiledMmioEvent → List ℕ → Option Record
-given_by answer.Accepted e es t = given_accepted e es t
-given_by (answer.Refused f) e es t = given_refused f
+abbrev pub given_by : Result (Unit {0}) RecordRefusal → PredicateTransducerExecution → List CompiledMmioEvent → List ℕ → Option Record
+given_by (Ok tt) e es t = given_accepted e es t
+given_by (Err f) e es t = given_refused f
 
 -- the record that a result and a trace stand for, if they keep the rules
 abbrev pub given : RecordOutcome → List ℕ → Option Record
@@ -108,7 +102,7 @@ abbrev pub write_output : Option Record → List ℕ → List ℕ
 write_output none out = out
 write_output (some x) out = cond (leb (length (encode x)) (length out)) (over (encode x) out) out
 
-pub record Writes (q : Option Record) (out : List ℕ) (r : WriteAnswer) (out' : List ℕ) : Type 0 where
+pub record Writes (q : Option Record) (out : List ℕ) (r : Result ℕ WriteError) (out' : List ℕ) : Type 0 where
   pub answer : write_said r ≡ write_answer q (length out)
   pub output : out' ≡ write_output q out
   -- what was written reads back as itself

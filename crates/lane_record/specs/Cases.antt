@@ -1,4 +1,4 @@
--- The reader on both sides of each edge of a range and of its steps (document 02, Three), as one table, and the example of document 01.
+-- The reader on both sides of each edge of a range and of its steps, as one table, and the worked example of a record.
 use Rattle.std.specs.Prelude.{◌≡◌, Bool, true, false, not, ◌&&◌, List, [], ◌∷◌, ℕ, length}
 use Rattle.std.proofs.Math.Option.{Option, none, some}
 use Rattle.predicate_trace.specs.declared.PredicateControlStep.{PredicateControlStep}

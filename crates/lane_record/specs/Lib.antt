@@ -3,6 +3,7 @@ pub mod Format
 pub mod Rules
 pub mod Decode
 pub mod Answers
+pub mod Texts
 pub mod RoundTrip
 pub mod Runs
 pub mod Cases

@@ -42,6 +42,10 @@ execution_valid e =
 abbrev pub link : PredicateControlStep → ℕ → Bool
 link s c = (eqb s.instruction_bytes 2 || eqb s.instruction_bytes 4) && eqb s.next_program_counter c
 
+-- a step that has an instruction's length, at the counter c
+abbrev pub follows : PredicateControlStep → ℕ → Bool
+follows s c = eqb c s.program_counter && (eqb s.instruction_bytes 2 || eqb s.instruction_bytes 4)
+
 -- the counter that steps begin at; without a step, the one that they end at
 abbrev pub begins : ℕ → List PredicateControlStep → ℕ
 begins end [] = end

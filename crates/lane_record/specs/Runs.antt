@@ -4,7 +4,7 @@ use Rattle.std.proofs.Math.Option.{Option, none, some}
 use Rattle.little_endian.specs.Lent.{over}
 use Rattle.lane_word.specs.Word.{lanes}
 use Rattle.predicate_answer.specs.Refusal.{of_run, of_call, refusal_after}
-use Rattle.predicate_semantics.specs.State.{Result}
+use Rattle.predicate_semantics.specs.State.{RunResult}
 use Rattle.predicate_semantics.specs.Tested.{Tested, passed}
 use Rattle.predicate_semantics.specs.Lane.{LaneState, execution}
 use Rattle.predicate_semantics.specs.Call.{Call, program_in, setup_of, run_of}
@@ -15,7 +15,7 @@ use Rattle.lane_record.specs.Answers.{given}
 
 module _ (c : Call) where
   -- the record of a run that ended in a state with an answer; none where the call is refused for what its caller chose
-  abbrev pub record_in : LaneState → Tested Result → Option Record
+  abbrev pub record_in : LaneState → Tested RunResult → Option Record
   record_in s (passed r) = some (accepted (execution (program_in c) (setup_of c) s r) r.events r.trace)
   record_in s (Tested.refused (of_run q)) = some (refused (refusal_after q s.steps))
   record_in s (Tested.refused (of_call e)) = none

@@ -8,7 +8,7 @@ use Rattle.lane_word.specs.declared.InputRange.{InputRange}
 use Rattle.lane_word.specs.Word.{lanes}
 use Rattle.lane_word.specs.Range.{inputs, input_count}
 use Rattle.lane_word.specs.Spare.{lane_inputs}
-use Rattle.lane_word.proofs.Tab.{length_inputs}
+use Rattle.lane_word.proofs.Lists.{length_inputs}
 
 -- one input more, over a copy
 lay : (first x k m : ℕ) {v : ℕ} → v ≡ first + k → set (inputs first k ++ replicate (suc m) x) k v ≡ inputs first (suc k) ++ replicate m x

@@ -1,4 +1,5 @@
 -- Laws of words that one value tells, and of their sizes. Assumes nothing.
+use Rattle.std.specs.Prelude.{Err, None, Ok, Option, Some, ℕ}
 use mathlib.Core.Bool.{Bool, true, false, cond, ◌&&◌, true≢false}
 use mathlib.Core.List.{List, [], ◌∷◌, map}
 use mathlib.Core.Path.{◌≡◌, refl, ap, ap₂, sym, ◌∙◌}
@@ -8,13 +9,11 @@ use borrow.Author.Tests.{eq-eqb, eqb-true}
 use lib.Dec.{eqb}
 use lib.ListN.{length, get_or, replicate, length-replicate, length-map}
 use Rattle.lane_word.specs.declared.LaneWord.{LaneWord}
-use Rattle.lane_word.specs.declared.Uniform.TheVariants.{Value, Unknown, Uneven}
-use Rattle.lane_word.specs.declared.Told.{Told}
-use Rattle.lane_word.specs.declared.Told.TheVariants as told
 use Rattle.lane_word.specs.Word.{lanes, constant, zip, unary, binary, every, uniform_of}
 use Rattle.lane_word.specs.Told.{word_of, told_by}
 use Rattle.lane_word.proofs.Clash.{clash}
-use Rattle.lane_word.proofs.Tab.{length_zip}
+use Rattle.lane_word.proofs.Lists.{length_zip}
+use Rattle.lane_word.specs.declared.UniformError.TheVariants.{Unknown, Uneven}
 
 -- ---- sizes
 
@@ -30,9 +29,9 @@ pub binary_size : (f : ℕ → ℕ → ℕ) (a b : LaneWord) {n : ℕ} → lengt
 unfolding binary
 binary_size f a b e d = length_zip f a.values b.values (e ∙ sym d) ∙ e
 
-pub word_size : (u : Told) (w : LaneWord) → length w.values ≡ lanes → length (word_of u w).values ≡ lanes
-word_size (told.Value v) w e = constant_size lanes v
-word_size told.Lanes w e = e
+pub word_size : (u : Option ℕ) (w : LaneWord) → length w.values ≡ lanes → length (word_of u w).values ≡ lanes
+word_size (Some v) w e = constant_size lanes v
+word_size None w e = e
 
 -- ---- one value in every lane
 
@@ -73,7 +72,7 @@ unfolding every
 every_replicate zero v = refl
 every_replicate (suc n) v = rw (eq-eqb v v refl, every_replicate n v)
 
-pub uniform_constant : (n v : ℕ) → 0 < n → uniform_of (constant n v) ≡ Value v
+pub uniform_constant : (n v : ℕ) → 0 < n → uniform_of (constant n v) ≡ Ok v
 unfolding uniform_of constant
 uniform_constant zero v h = absurd (omega arith)
 uniform_constant (suc n) v h = rw (every_replicate (suc n) v)
@@ -98,12 +97,12 @@ unfolding constant
 constant_by w n v k l = ap₂ word l k
 
 -- a word that is uniform is that value in every lane
-pub told_is : (w : LaneWord) (v : ℕ) → length w.values ≡ lanes → uniform_of w ≡ Value v → w ≡ constant lanes v
+pub told_is : (w : LaneWord) (v : ℕ) → length w.values ≡ lanes → uniform_of w ≡ Ok v → w ≡ constant lanes v
 unfolding uniform_of
 told_is w v e h = go w.known refl (every (get_or w.values 0 0) w.values) refl h
   where
     go : (b : Bool) → w.known ≡ b → (c : Bool) → every (get_or w.values 0 0) w.values ≡ c
-        → cond b (cond c (Value (get_or w.values 0 0)) Uneven) Unknown ≡ Value v → w ≡ constant lanes v
+        → cond b (cond c (Ok (get_or w.values 0 0)) (Err Uneven)) (Err Unknown) ≡ Ok v → w ≡ constant lanes v
     go true k true s q =
         let z : get_or w.values 0 0 ≡ v = cc in
         constant_by w lanes v k (all_same _ w.values s ∙ rw (e, z))
@@ -111,8 +110,8 @@ told_is w v e h = go w.known refl (every (get_or w.values 0 0) w.values) refl h
     go false k c s q = absurd (clash (cc))
 
 -- two told values tell of their operation what its lanes would
-pub told_by_value : (f : ℕ → ℕ → ℕ) (l r : Told) (x y : LaneWord) {v : ℕ} → told_by f l r ≡ told.Value v → uniform_of (binary f (word_of l x) (word_of r y)) ≡ Value v
-told_by_value f (told.Value a) (told.Value b) x y {v} e =
-    let z : f a b ≡ v = cc in ap uniform_of (binary_constants f lanes a b) ∙ uniform_constant lanes (f a b) (omega arith) ∙ ap Value z
-told_by_value f (told.Value a) told.Lanes x y e = absurd (clash (cc))
-told_by_value f told.Lanes r x y e = absurd (clash (cc))
+pub told_by_value : (f : ℕ → ℕ → ℕ) (l r : Option ℕ) (x y : LaneWord) {v : ℕ} → told_by f l r ≡ Some v → uniform_of (binary f (word_of l x) (word_of r y)) ≡ Ok v
+told_by_value f (Some a) (Some b) x y {v} e =
+    let z : f a b ≡ v = cc in ap uniform_of (binary_constants f lanes a b) ∙ uniform_constant lanes (f a b) (omega arith) ∙ ap Ok z
+told_by_value f (Some a) None x y e = absurd (clash (cc))
+told_by_value f None r x y e = absurd (clash (cc))

@@ -6,3 +6,4 @@ pub mod Flags
 pub mod Told
 pub mod Spare
 pub mod Divisor
+pub mod Lanewise

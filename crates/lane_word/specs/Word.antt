@@ -1,9 +1,9 @@
 -- Lane words (document 01, "Lane word"), over any number of lanes.
-use Rattle.std.specs.Prelude.{Bool, true, false, cond, ◌&&◌, List, [], ◌∷◌, map, ℕ, eqb, get_or, replicate}
+use Rattle.std.specs.Prelude.{Bool, true, false, cond, ◌&&◌, List, [], ◌∷◌, map, ℕ, eqb, get_or, replicate, Err, Ok, Result}
 use Rattle.lane_word.specs.declared.LaneWord.{LaneWord}
-use Rattle.lane_word.specs.declared.Uniform.{Uniform}
-use Rattle.lane_word.specs.declared.Uniform.TheVariants.{Value, Unknown, Uneven}
 use Rattle.lane_word.specs.Range.{most_inputs}
+use Rattle.lane_word.specs.declared.UniformError.TheVariants.{Unknown, Uneven}
+use Rattle.lane_word.specs.declared.UniformError.{UniformError}
 
 -- how many a word of the code has: one for every input that there can be
 abbrev pub lanes : ℕ
@@ -38,8 +38,8 @@ every v [] = true
 every v (x ∷ xs) = eqb x v && every v xs
 
 -- the uniform test: an unknown word is not compared; a known one has one value or is uneven
-unfoldable pub uniform_of : LaneWord → Uniform
+unfoldable pub uniform_of : LaneWord → Result ℕ UniformError
 uniform_of w =
     cond w.known
-    (cond (every (get_or w.values 0 0) w.values) (Value (get_or w.values 0 0)) Uneven)
-    Unknown
+    (cond (every (get_or w.values 0 0) w.values) (Ok (get_or w.values 0 0)) (Err Uneven))
+    (Err Unknown)

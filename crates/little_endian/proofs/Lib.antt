@@ -2,3 +2,4 @@
 pub mod NumberLaws
 pub mod SetLaws
 pub mod PackLaws
+mod Parts

@@ -1,5 +1,5 @@
 -- Numbers and their bytes, both ways, and numbers read at a place of a list. Assumes nothing.
-use mathlib.Core.Path.{◌≡◌, refl, ap, sym, ◌∙◌}
+use mathlib.Core.Path.{◌≡◌, refl, ap, ◌∙◌}
 use mathlib.Core.List.{List, [], ◌∷◌}
 use Prim.Native.Nat.{ℕ, zero, suc, ◌+◌, ◌*◌, ◌/◌, ◌%◌, ◌^◌, ◌<◌}
 use native.Mathlib.Nat.{pow-suc, mod-lt, add-zero}
@@ -54,15 +54,6 @@ value_next [] at n = rw (drop-nil at, take-nil n) refl
 value_next (x ∷ l) zero n = refl
 value_next (x ∷ l) (suc at) n = value_next l at n
 
--- n elements from a place on, as code reads them one by one
-abbrev elements : List ℕ → ℕ → ℕ → List ℕ
-elements l at zero = []
-elements l at (suc n) = get_or l at 0 ∷ elements l (suc at) n
-
-pub value_elements : (l : List ℕ) (at n : ℕ) → value (elements l at n) ≡ value (take n (drop at l))
-value_elements l at zero = refl
-value_elements l at (suc n) = rw (value_elements l (suc at) n) (sym (value_next l at n))
-
 -- a number of one byte is that byte
 pub value_one : (l : List ℕ) (at : ℕ) → value (take 1 (drop at l)) ≡ get_or l at 0
-value_one l at = sym (value_elements l at 1) ∙ add-zero (get_or l at 0)
+value_one l at = value_next l at 0 ∙ add-zero (get_or l at 0)

@@ -1,104 +1,131 @@
-// Little-endian numbers of 1, 2 and 4 bytes at a place of a slice: a byte past the end reads as 0 and is not written.
+// Little-endian numbers at a place of a slice: a byte past the end reads as 0 and is not written.
 #![tactic(auto)]
 
-ghost use Rattle.std.specs.Prelude.{◌≡◌, [], ◌∷◌, ◌+◌, get_or, take, drop, set};
+ghost use Rattle.std.specs.Prelude.{◌≡◌, ◌≤◌, ℕ, [], ◌∷◌, ◌++◌, length, take, drop, replicate};
 ghost use Rattle.std.proofs.lemmas.List.Edits.{sets};
 ghost use Rattle.little_endian.specs.Number.{value, bytes};
 
-fn half(a: u8, b: u8) -> u16
-    ensures { result ≡ value (a ∷ b ∷ []) }
+// A number that stands in a slice as its bytes, the lowest first.
+pub trait LittleEndian {
+    // How many bytes.
+    ghost width: { ℕ };
+
+    ghost number: { Self → ℕ };
+
+    fn read(s: &[u8], at: usize) -> Self
+        ensures { number result ≡ value (take width (drop at s.now)) };
+
+    fn write(self, s: &mut [u8], at: usize)
+        ensures { s.new ≡ sets s.old at (bytes width (number self)) };
+}
+
+pub fn get<T: LittleEndian>(s: &[u8], at: usize) -> T
+    ensures { T.number result ≡ value (take T.width (drop at s.now)) }
 {
-    (a as u16) + (b as u16) * 256
+    T::read(s, at)
+}
+
+pub fn put<T: LittleEndian>(s: &mut [u8], at: usize, x: T)
+    ensures { s.new ≡ sets s.old at (bytes T.width (T.number x)) }
+{
+    x.write(s, at);
 }
 
 // The number whose bytes these are, the lowest first.
 pub fn word(a: u8, b: u8, c: u8, d: u8) -> u32
     ensures { result ≡ value (a ∷ b ∷ c ∷ d ∷ []) }
 {
-    (a as u32) + (b as u32) * 256 + (c as u32) * 65536 + (d as u32) * 16777216
+    u32::from_le_bytes([a, b, c, d])
 }
 
-// The byte `k` places after `at`. The sum of the two is formed only where it lies inside the slice, so it cannot wrap.
-fn byte_after(s: &[u8], at: usize, k: usize) -> u8
-    ensures { result ≡ get_or s.now (at + k) 0 }
+// The bytes from `at` on, 0 past the end.
+fn bytes_at<const N: usize>(s: &[u8], at: usize) -> [u8; N]
+    ensures { result ≡ take N (drop at s.now ++ replicate N 0) }
 {
-    if s.len() <= at {
-        return 0;
+    let rest = s.get(at..).unwrap_or_default();
+    match rest.first_chunk() {
+        Some(whole) => *whole,
+        None => padded(rest),
     }
-    if s.len() - at <= k {
-        return 0;
-    }
-    s[at + k]
 }
 
-pub fn get_u8(s: &[u8], at: usize) -> u8
-    ensures { result ≡ value (take 1 (drop at s.now)) }
+// Fewer bytes, and zeros: the rare case, kept out of the loops that read.
+#[cold]
+#[inline(never)]
+fn padded<const N: usize>(start: &[u8]) -> [u8; N]
+    requires { length start.now ≤ N }
+    ensures { result ≡ take N (start.now ++ replicate N 0) }
 {
-    byte_after(s, at, 0)
+    let mut bytes = [0; N];
+    bytes[..start.len()].copy_from_slice(start);
+    bytes
 }
 
-pub fn get_u16(s: &[u8], at: usize) -> u16
-    ensures { result ≡ value (take 2 (drop at s.now)) }
-{
-    half(byte_after(s, at, 0), byte_after(s, at, 1))
-}
-
-pub fn get_u32(s: &[u8], at: usize) -> u32
-    ensures { result ≡ value (take 4 (drop at s.now)) }
-{
-    if at < s.len() {
-        if 4 <= s.len() - at {
-            return word(s[at], s[at + 1], s[at + 2], s[at + 3]);
-        }
-    }
-    word(
-        byte_after(s, at, 0),
-        byte_after(s, at, 1),
-        byte_after(s, at, 2),
-        byte_after(s, at, 3),
-    )
-}
-
-// Writes the byte `k` places after `at`, where that lies inside the slice.
-fn put_after(s: &mut [u8], at: usize, k: usize, x: u8)
-    ensures { s.new ≡ set s.old (at + k) x }
+// Writes the bytes from `at` on, as many as lie inside.
+#[tactic(auto, using(crate::proofs::Parts::sets_past, crate::proofs::Parts::whole, crate::proofs::Parts::cut))]
+fn set_bytes<const N: usize>(s: &mut [u8], at: usize, bytes: [u8; N])
+    ensures { s.new ≡ sets s.old at bytes.entry }
 {
     if s.len() <= at {
         return;
     }
-    if s.len() - at <= k {
-        return;
+    let rest = &mut s[at..];
+    match rest.first_chunk_mut() {
+        Some(whole) => *whole = bytes,
+        None => fill(rest, bytes),
     }
-    s[at + k] = x;
 }
 
-pub fn put_u8(s: &mut [u8], at: usize, x: u8)
-    ensures { s.new ≡ sets s.old at (bytes 1 x) }
+// The first bytes over fewer: the rare case, as in `padded`.
+#[cold]
+#[inline(never)]
+fn fill<const N: usize>(rest: &mut [u8], bytes: [u8; N])
+    requires { length rest.old ≤ N }
+    ensures { rest.new ≡ take (length rest.old) bytes.entry }
 {
-    put_after(s, at, 0, x);
+    let count = rest.len();
+    rest.copy_from_slice(&bytes[..count]);
 }
 
-pub fn put_u16(s: &mut [u8], at: usize, x: u16)
-    ensures { s.new ≡ sets s.old at (bytes 2 x) }
-{
-    put_after(s, at, 0, (x % 256) as u8);
-    put_after(s, at, 1, (x / 256 % 256) as u8);
-}
+// The same two lines for each type: an array's length can't be a member of a trait, and impls are not written by macros here.
+impl LittleEndian for u8 {
+    ghost width = { 1 };
 
-pub fn put_u32(s: &mut [u8], at: usize, x: u32)
-    ensures { s.new ≡ sets s.old at (bytes 4 x) }
-{
-    if at < s.len() {
-        if 4 <= s.len() - at {
-            s[at] = (x % 256) as u8;
-            s[at + 1] = (x / 256 % 256) as u8;
-            s[at + 2] = (x / 65536 % 256) as u8;
-            s[at + 3] = (x / 16777216 % 256) as u8;
-            return;
-        }
+    ghost number = { λ x. x };
+
+    fn read(s: &[u8], at: usize) -> u8 {
+        u8::from_le_bytes(bytes_at(s, at))
     }
-    put_after(s, at, 0, (x % 256) as u8);
-    put_after(s, at, 1, (x / 256 % 256) as u8);
-    put_after(s, at, 2, (x / 65536 % 256) as u8);
-    put_after(s, at, 3, (x / 16777216 % 256) as u8);
+
+    fn write(self, s: &mut [u8], at: usize) {
+        set_bytes(s, at, u8::to_le_bytes(self));
+    }
+}
+
+impl LittleEndian for u16 {
+    ghost width = { 2 };
+
+    ghost number = { λ x. x };
+
+    fn read(s: &[u8], at: usize) -> u16 {
+        u16::from_le_bytes(bytes_at(s, at))
+    }
+
+    fn write(self, s: &mut [u8], at: usize) {
+        set_bytes(s, at, u16::to_le_bytes(self));
+    }
+}
+
+impl LittleEndian for u32 {
+    ghost width = { 4 };
+
+    ghost number = { λ x. x };
+
+    fn read(s: &[u8], at: usize) -> u32 {
+        u32::from_le_bytes(bytes_at(s, at))
+    }
+
+    fn write(self, s: &mut [u8], at: usize) {
+        set_bytes(s, at, u32::to_le_bytes(self));
+    }
 }

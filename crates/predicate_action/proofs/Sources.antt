@@ -1,4 +1,5 @@
 -- The registers that the action of a decoded operation reads are below 32, so that they index the run's registers. Assumes nothing.
+use Rattle.std.specs.Prelude.{Some}
 use mathlib.Core.Bool.{Bool, ◌&&◌}
 use Prim.Native.Nat.{ℕ}
 use native.Mathlib.Omega.{arith}
@@ -7,7 +8,6 @@ use lib.Dec.{T, ltb, ltb→lt}
 use lib.Ieee.Fits.{and_l, and_r}
 use mathlib.Core.Path.{◌≡◌}
 use Rattle.riscv_decode.specs.declared.Operation.{Operation}
-use Rattle.riscv_decode.specs.declared.Decoded.TheVariants.{Known}
 use Rattle.riscv_decode.specs.Operands.{rs1_field, rs2_field}
 use Rattle.riscv_decode.specs.Listing.{listing, operation}
 use Rattle.riscv_decode.specs.Decode.{decode_of}
@@ -32,6 +32,6 @@ unfolding listing operation meaning
 lines_below w pc = rw (lt-ltb (rs1_field w) 32 (omega arith), lt-ltb (rs2_field w) 32 (omega arith)) tt
 
 -- a decoded operation, at any program counter
-pub sources_below : (w pc : ℕ) (o : Operation) → decode_of w ≡ Known o → ReadsBelow 32 (reading_of (meaning o pc))
+pub sources_below : (w pc : ℕ) (o : Operation) → decode_of w ≡ Some o → ReadsBelow 32 (reading_of (meaning o pc))
 sources_below w pc o d =
     both_below (reading_of (meaning o pc)) (decoded_passes (λ o. registers (reading_of (meaning o pc))) w o (lines_below w pc) d)

@@ -1,21 +1,22 @@
 -- What an action reads: its sources, and the lane word that it computes of them, which is its result or what is tested of it.
-use Rattle.std.specs.Prelude.{true, false, cond, ℕ, ◌<◌}
+use Rattle.std.specs.Prelude.{ℕ, ◌<◌, None, Some}
 use Rattle.rv32_arithmetic.specs.declared.Binary.{Binary}
 use Rattle.rv32_arithmetic.specs.declared.Binary.TheVariants.{Add, Target}
 use Rattle.rv32_arithmetic.specs.Value.{value_of}
 use Rattle.lane_word.specs.declared.LaneWord.{LaneWord}
-use Rattle.lane_word.specs.Word.{lanes, constant, binary}
+use Rattle.lane_word.specs.Word.{binary}
+use Rattle.lane_word.specs.Told.{word_of}
 use Rattle.predicate_action.specs.declared.Action.{Action}
 use Rattle.predicate_action.specs.declared.Action.TheVariants.{Nothing, Literal, Compute, ComputeImmediate, Jump, JumpTo, Branch, Load, Store}
 use Rattle.predicate_action.specs.declared.Reading.{Reading}
 
 -- a function of both sources
 abbrev pub of_sources : Binary → ℕ → ℕ → Reading
-of_sources f a b = record { rs1 = a; rs2 = b; function = f; immediate = false; operand = 0 }
+of_sources f a b = record { rs1 = a; rs2 = b; function = f; immediate = None }
 
 -- a function of the first source and a number
 abbrev pub with_number : Binary → ℕ → ℕ → ℕ → Reading
-with_number f a b n = record { rs1 = a; rs2 = b; function = f; immediate = true; operand = n }
+with_number f a b n = record { rs1 = a; rs2 = b; function = f; immediate = Some n }
 
 -- a result, the test of a branch, the target of a jump, the address of a load or a store; 0 for a source that it has not
 abbrev pub reading_of : Action → Reading
@@ -35,7 +36,7 @@ ReadsBelow n r = (r.rs1 < n) × (r.rs2 < n)
 
 -- the second operand, where the second source's word is w
 abbrev pub operand_of : Reading → LaneWord → LaneWord
-operand_of r w = cond r.immediate (constant lanes r.operand) w
+operand_of r w = word_of r.immediate w
 
 -- lane by lane
 abbrev pub computed : Reading → LaneWord → LaneWord → LaneWord

@@ -75,11 +75,13 @@ pub enum Action {
     },
 }
 
+// The forms of operations that differ in their function alone. Each takes another format to another form, or, as the two
+// formats with a number, reads it from a field of another name.
 fn branch_of(test: Binary, v: BType, pc: u32) -> Action
     ensures { result ≡ Action.Branch test v.rs1 v.rs2 (add pc v.imm) }
 {
     Action::Branch {
-        test: test,
+        test,
         rs1: v.rs1,
         rs2: v.rs2,
         target: rv32_add(pc, v.imm),
@@ -93,8 +95,8 @@ fn load_of(v: IType, width: u32, extension: Extension) -> Action
         rd: v.rd,
         rs1: v.rs1,
         offset: v.imm,
-        width: width,
-        extension: extension,
+        width,
+        extension,
     }
 }
 
@@ -105,7 +107,7 @@ fn store_of(v: SType, width: u32) -> Action
         rs1: v.rs1,
         rs2: v.rs2,
         offset: v.imm,
-        width: width,
+        width,
     }
 }
 
@@ -114,7 +116,7 @@ fn immediate_of(function: Binary, v: IType) -> Action
 {
     Action::ComputeImmediate {
         rd: v.rd,
-        function: function,
+        function,
         rs1: v.rs1,
         immediate: v.imm,
     }
@@ -125,7 +127,7 @@ fn shift_of(function: Binary, v: ShiftType) -> Action
 {
     Action::ComputeImmediate {
         rd: v.rd,
-        function: function,
+        function,
         rs1: v.rs1,
         immediate: v.shamt,
     }
@@ -136,13 +138,14 @@ fn compute_of(function: Binary, v: RType) -> Action
 {
     Action::Compute {
         rd: v.rd,
-        function: function,
+        function,
         rs1: v.rs1,
         rs2: v.rs2,
     }
 }
 
-// The operation at a program counter.
+// The operation at a program counter. One `match` with an arm for each operation, longer than other functions, since two
+// halves would first have to tell the operations apart.
 #[tactic(auto, unfolding(crate::specs::Meaning::meaning))]
 pub fn action_of(operation: Operation, pc: u32) -> Action
     ensures { result ≡ meaning operation pc }
@@ -211,14 +214,14 @@ pub fn action_of(operation: Operation, pc: u32) -> Action
     }
 }
 
-// What an action reads: the registers that are its sources, and a function of the first and a second operand, which is the second source or one number.
+// What an action reads: the registers that are its sources, and a function of the first and a second operand, which is one number, and
+// else the second source.
 #[derive(Clone, Copy)]
 pub struct Reading {
     pub rs1: u32,
     pub rs2: u32,
     pub function: Binary,
-    pub immediate: bool,
-    pub operand: u32,
+    pub immediate: Option<u32>,
 }
 
 fn of_sources(function: Binary, rs1: u32, rs2: u32) -> Reading
@@ -228,8 +231,7 @@ fn of_sources(function: Binary, rs1: u32, rs2: u32) -> Reading
         rs1,
         rs2,
         function,
-        immediate: false,
-        operand: 0,
+        immediate: None,
     }
 }
 
@@ -240,8 +242,7 @@ fn with_number(function: Binary, rs1: u32, rs2: u32, operand: u32) -> Reading
         rs1,
         rs2,
         function,
-        immediate: true,
-        operand,
+        immediate: Some(operand),
     }
 }
 

@@ -1,4 +1,5 @@
 -- To believe: what a run answers.
 pub mod Refusal
+pub mod Texts
 pub mod Blank
 pub mod Outcome

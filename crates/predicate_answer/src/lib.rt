@@ -1,13 +1,17 @@
 // What a run answers: its numbers and events, or a refusal with its number, role and text; and the zeros that stand where there is nothing.
 #![tactic(auto)]
 
-ghost use Rattle.std.specs.Prelude.{◌≡◌};
+ghost use Rattle.std.specs.Prelude.{◌≡◌, Some};
 ghost use Rattle.predicate_answer.specs.Refusal.{role_of, run_refusal, refusal_after, call_number};
-ghost use Rattle.predicate_answer.specs.Blank.{no_execution, no_event, no_events};
+ghost use Rattle.predicate_answer.specs.Blank.{no_events};
+ghost use Rattle.predicate_answer.specs.Texts.{role_text, run_text, call_text};
 ghost use Rattle.predicate_answer.specs.Outcome.{refused_outcome, no_outcome};
 
+use std::error::Error;
+use std::fmt;
+
 // One event, with the program counter of the SW that recorded it.
-#[derive(Clone, Copy)]
+#[derive(Clone, Copy, Default)]
 pub struct CompiledMmioEvent {
     pub operation: u32,
     pub offset: u32,
@@ -16,7 +20,7 @@ pub struct CompiledMmioEvent {
 }
 
 // What an accepted run answers beside its events and its trace: the fields of a record's first item, in its order.
-#[derive(Clone, Copy)]
+#[derive(Clone, Copy, Default)]
 pub struct PredicateTransducerExecution {
     pub first_input: u8,
     pub lane_count: u16,
@@ -31,9 +35,9 @@ pub struct PredicateTransducerExecution {
 pub const MAX_EVENTS: usize = 32;
 
 // What a word that is not known or not uniform was read for.
-#[derive(Clone, Copy)]
+#[derive(Clone, Copy, Debug)]
 pub enum Role {
-    Fetch,
+    Fetch = 1,
     JumpTarget,
     LoadAddress,
     StoreAddress,
@@ -46,7 +50,7 @@ pub enum Role {
 }
 
 // The refusals of a run, which its record holds.
-#[derive(Clone, Copy)]
+#[derive(Clone, Copy, Debug)]
 pub enum Rv32Error {
     ImageSize,
     SymbolOutside,
@@ -65,19 +69,12 @@ pub enum Rv32Error {
 }
 
 // The refusals of a call for what its caller chose, which no record holds.
-#[derive(Clone, Copy)]
+#[derive(Clone, Copy, Debug)]
 pub enum CallError {
     FirstAboveLast,
 }
 
-// Whether a call is refused for what its caller chose.
-#[derive(Clone, Copy)]
-pub enum CallVerdict {
-    Passed,
-    Refused(CallError),
-}
-
-// A run's refusal as an item 7F holds it.
+// A run's refusal as an item 7F holds it: numbers, 0 for no role, since the record's writer takes every such value and refuses those that break the rules.
 #[derive(Clone, Copy)]
 pub struct RecordRefusal {
     pub number: u8,
@@ -85,18 +82,11 @@ pub struct RecordRefusal {
     pub steps: u32,
 }
 
-// A run's answer as its record has it.
-#[derive(Clone, Copy)]
-pub enum RecordAnswer {
-    Accepted,
-    Refused(RecordRefusal),
-}
-
 // What a run answers beside its trace, and a record is written of and read as. Of the events the first `event_count` count; after a refusal only
-// the answer does.
+// the answer does. The writer takes every such value. An array with its count beside it, since nothing allocates.
 #[derive(Clone, Copy)]
 pub struct RecordOutcome {
-    pub answer: RecordAnswer,
+    pub answer: Result<(), RecordRefusal>,
     pub execution: PredicateTransducerExecution,
     pub events: [CompiledMmioEvent; MAX_EVENTS],
 }
@@ -106,53 +96,30 @@ pub const LAST_REFUSAL: u32 = 14;
 
 pub const LAST_ROLE: u32 = 10;
 
-// Each refusal in words, from number 1 on, after a stroke; 15 and 16 are what a record's reader and writer refuse with, and 17 is a call's.
-pub const REFUSAL_TEXTS: [u8; 478] = *b"|the image is empty or too large\
-|a symbol lies outside memory\
-|not at stop after 1,000,000 steps\
-|address below memory\
-|access past memory's end\
-|unknown\
-|not the same in all lanes\
-|halfword not accepted\
-|word not accepted\
-|jump target 0\
-|store below the image's end\
-|event count above 32 or unlike the number of recorded SWs\
-|more distinct written bytes than rows lent\
-|more steps than trace entries lent\
-|the record's rules are broken\
-|output too short for the record\
-|first input above last";
+impl From<Role> for u8 {
+    ghost from_gives = { λ role number. number ≡ role_of role };
 
-// Each role in words, from 1 on.
-pub const ROLE_TEXTS: [u8; 100] = *b"|fetch\
-|jump target\
-|load address\
-|store address\
-|branch\
-|return value\
-|event count\
-|operation\
-|offset\
-|value";
+    fn from(role: Role) -> u8 {
+        role as u8
+    }
+}
 
-impl Role {
-    pub fn number(self) -> u8
-        ensures { result ≡ role_of self }
-    {
-        match self {
-            Role::Fetch => 1,
-            Role::JumpTarget => 2,
-            Role::LoadAddress => 3,
-            Role::StoreAddress => 4,
-            Role::Branch => 5,
-            Role::ReturnValue => 6,
-            Role::EventCount => 7,
-            Role::EventOperation => 8,
-            Role::EventOffset => 9,
-            Role::EventValue => 10,
-        }
+impl fmt::Display for Role {
+    ghost output = { λ role. Some (role_text role) };
+
+    fn fmt<W: fmt::Write>(&self, f: &mut fmt::Formatter<W>) -> fmt::Result {
+        f.write_str(match self {
+            Role::Fetch => "fetch",
+            Role::JumpTarget => "jump target",
+            Role::LoadAddress => "load address",
+            Role::StoreAddress => "store address",
+            Role::Branch => "branch",
+            Role::ReturnValue => "return value",
+            Role::EventCount => "event count",
+            Role::EventOperation => "operation",
+            Role::EventOffset => "offset",
+            Role::EventValue => "value",
+        })
     }
 }
 
@@ -183,20 +150,8 @@ impl Rv32Error {
         ensures { result ≡ (run_refusal self).role }
     {
         match self {
-            Rv32Error::ImageSize => 0,
-            Rv32Error::SymbolOutside => 0,
-            Rv32Error::StepLimit => 0,
-            Rv32Error::BelowMemory => 0,
-            Rv32Error::PastMemory => 0,
-            Rv32Error::Unknown(role) => role.number(),
-            Rv32Error::NotUniform(role) => role.number(),
-            Rv32Error::Halfword => 0,
-            Rv32Error::Word => 0,
-            Rv32Error::ZeroTarget => 0,
-            Rv32Error::StoreBelowImageEnd => 0,
-            Rv32Error::EventCount => 0,
-            Rv32Error::NoRow => 0,
-            Rv32Error::NoTraceEntry => 0,
+            Rv32Error::Unknown(role) | Rv32Error::NotUniform(role) => u8::from(role),
+            _ => 0,
         }
     }
 
@@ -207,10 +162,37 @@ impl Rv32Error {
         RecordRefusal {
             number: self.number(),
             role: self.role(),
-            steps: steps,
+            steps,
         }
     }
 }
+
+impl fmt::Display for Rv32Error {
+    ghost output = { λ error. Some (run_text error) };
+
+    fn fmt<W: fmt::Write>(&self, f: &mut fmt::Formatter<W>) -> fmt::Result {
+        match self {
+            Rv32Error::ImageSize => f.write_str("the image is empty or too large"),
+            Rv32Error::SymbolOutside => f.write_str("a symbol lies outside memory"),
+            Rv32Error::StepLimit => f.write_str("not at stop after 1,000,000 steps"),
+            Rv32Error::BelowMemory => f.write_str("address below memory"),
+            Rv32Error::PastMemory => f.write_str("access past memory's end"),
+            Rv32Error::Unknown(role) => write!(f, "unknown: {role}"),
+            Rv32Error::NotUniform(role) => write!(f, "not the same in all lanes: {role}"),
+            Rv32Error::Halfword => f.write_str("halfword not accepted"),
+            Rv32Error::Word => f.write_str("word not accepted"),
+            Rv32Error::ZeroTarget => f.write_str("jump target 0"),
+            Rv32Error::StoreBelowImageEnd => f.write_str("store below the image's end"),
+            Rv32Error::EventCount => f.write_str(
+                "event count above 32 or unlike the number of recorded SWs",
+            ),
+            Rv32Error::NoRow => f.write_str("more distinct written bytes than rows lent"),
+            Rv32Error::NoTraceEntry => f.write_str("more steps than trace entries lent"),
+        }
+    }
+}
+
+impl Error for Rv32Error {}
 
 impl CallError {
     pub fn number(self) -> u8
@@ -222,35 +204,22 @@ impl CallError {
     }
 }
 
-pub fn no_execution() -> PredicateTransducerExecution
-    ensures { result ≡ no_execution }
-{
-    PredicateTransducerExecution {
-        first_input: 0,
-        lane_count: 0,
-        return_value: 0,
-        symbolic_transitions: 0,
-        lane_value_operations: 0,
-        sparse_memory_bytes: 0,
-        event_count: 0,
+impl fmt::Display for CallError {
+    ghost output = { λ error. Some (call_text error) };
+
+    fn fmt<W: fmt::Write>(&self, f: &mut fmt::Formatter<W>) -> fmt::Result {
+        match self {
+            CallError::FirstAboveLast => f.write_str("first input above last"),
+        }
     }
 }
 
-pub fn no_event() -> CompiledMmioEvent
-    ensures { result ≡ no_event }
-{
-    CompiledMmioEvent {
-        operation: 0,
-        offset: 0,
-        value: 0,
-        location: 0,
-    }
-}
+impl Error for CallError {}
 
 pub fn no_events() -> [CompiledMmioEvent; MAX_EVENTS]
     ensures { result ≡ no_events }
 {
-    [no_event(); MAX_EVENTS]
+    [CompiledMmioEvent::default(); MAX_EVENTS]
 }
 
 // What a refused run answers.
@@ -258,13 +227,13 @@ pub fn refused_outcome(refusal: RecordRefusal) -> RecordOutcome
     ensures { result ≡ refused_outcome refusal }
 {
     RecordOutcome {
-        answer: RecordAnswer::Refused(refusal),
-        execution: no_execution(),
+        answer: Err(refusal),
+        execution: PredicateTransducerExecution::default(),
         events: no_events(),
     }
 }
 
-// What stands where there is no answer: a refusal numbered 0.
+// What stands where there is no answer, a refusal numbered 0: words for C stand for an outcome whatever they are.
 pub fn no_outcome() -> RecordOutcome
     ensures { result ≡ no_outcome }
 {

@@ -1,20 +1,19 @@
 -- Every word that a halfword expands to is a number of four bytes.
+use Rattle.std.specs.Prelude.{None, Option, Some, ℕ}
 use mathlib.Core.Path.{◌≡◌, refl, subst}
 use mathlib.Core.Bool.{Bool, true, false}
 use mathlib.Core.Option.{some, some-injective}
 use Prim.Native.Nat.{ℕ, ◌<◌, ◌%◌, ◌^◌}
 use native.Mathlib.Omega.{arith}
 use lib.Dec.{eqb}
-use Rattle.riscv32imc.specs.declared.compressed.Expanded.{Expanded}
-use Rattle.riscv32imc.specs.declared.compressed.Expanded.TheVariants.{Word, Refused}
 use Rattle.rv32_arithmetic.specs.Bits.{slice}
 use Rattle.riscv32imc.specs.Expansion.{funct3, rd, rs2, addi4spn_imm, addi16sp_imm, lui_imm, cAddi4spn, quadrant0, cAddi16sp, cLui, cShift, cOperations, cArithmetic, quadrant1, cSlli, cLwsp, cRegisters, quadrant2, expand}
 use Rattle.predicate_semantics.specs.Standing.{expanded_word, standing_core}
 use Rattle.predicate_semantics.specs.RecordRules.{ExpandsToWords}
 
-abbrev Fits : Expanded → Type 0
-Fits (Word w) = w < 2 ^ 32
-Fits Refused = Unit {0}
+abbrev Fits : Option ℕ → Type 0
+Fits (Some w) = w < 2 ^ 32
+Fits None = Unit {0}
 
 either : {P : Type 0} (b : Bool) → (b ≡ true → P) → (b ≡ false → P) → P
 either true x y = x refl
@@ -114,10 +113,10 @@ fits_expand h =
     (λ e. rw e (either (eqb (h % 4) 2) (λ e. rw e (fits_quadrant2 h))
     (λ e. rw e tt)))))
 
-told : (w : ℕ) (x : Expanded) → Fits x → expanded_word x ≡ some w → w < 2 ^ 32
+told : (w : ℕ) (x : Option ℕ) → Fits x → expanded_word x ≡ some w → w < 2 ^ 32
 unfolding expanded_word
-told w (Word v) h e = subst (λ (n : ℕ). n < 2 ^ 32) (some-injective v w e) h
-told w Refused h e = let z : ◌≡◌ {A = ℕ} 0 1 = cc in absurd (omega arith)
+told w (Some v) h e = subst (λ (n : ℕ). n < 2 ^ 32) (some-injective v w e) h
+told w None h e = let z : ◌≡◌ {A = ℕ} 0 1 = cc in absurd (omega arith)
 
 pub standing_expands_to_words : ExpandsToWords standing_core
 unfolding standing_core

@@ -1,4 +1,5 @@
 -- A hint's step only advances. Assumes nothing.
+use Rattle.std.specs.Prelude.{None, Some}
 use mathlib.Core.Bool.{Bool, true, false, ◌||◌}
 use mathlib.Core.Option.{Option, some}
 use mathlib.Core.Path.{◌≡◌, refl}
@@ -13,7 +14,6 @@ use Rattle.rv32_arithmetic.specs.Bits.{slice}
 use Rattle.rv32_arithmetic.specs.declared.Binary.{Binary}
 use Rattle.rv32_arithmetic.specs.declared.Binary.TheVariants.{Add, Sll}
 use Rattle.rv32_arithmetic.specs.Value.{value_of}
-use Rattle.riscv32imc.specs.declared.compressed.Expanded.TheVariants.{Word, Refused}
 use Rattle.riscv32imc.specs.Expansion.{expand}
 use Rattle.riscv32imc.specs.Hints.{writes_x0}
 use Rattle.riscv32imc.proofs.Hints.{hints_expand}
@@ -106,13 +106,13 @@ writes_decodes w t =
     (λ adds. of_line w 27 (registers Add (rs1_field w) (rs2_field w)) (omega arith) adds (λ pc. rw z))
 
 -- what expands is of two bytes
-expands_two : (h w : ℕ) → expand h ≡ Word w → eqb (h % 4) 3 ≡ false
+expands_two : (h w : ℕ) → expand h ≡ Some w → eqb (h % 4) 3 ≡ false
 unfolding expand
 expands_two h w e = go (eqb (h % 4) 3) refl
   where
     go : (b : Bool) → eqb (h % 4) 3 ≡ b → eqb (h % 4) 3 ≡ false
     go false q = q
-    go true q = let z : Refused ≡ Word w = rw (eqb-true (h % 4) 3 q) at e in let y : ◌≡◌ {A = ℕ} 0 1 = cc in absurd (omega arith)
+    go true q = let z : None ≡ Some w = rw (eqb-true (h % 4) 3 q) at e in let y : ◌≡◌ {A = ℕ} 0 1 = cc in absurd (omega arith)
 
 pub hints_only_advance : HintsOnlyAdvance
 unfolding program_of standing_core expanded_word

@@ -16,7 +16,7 @@ use Rattle.predicate_action.specs.declared.Action.TheVariants.{Nothing, Literal,
 use Rattle.predicate_trace.specs.declared.PredicateControlStep.{PredicateControlStep}
 use Rattle.predicate_answer.specs.Refusal.{Refusal}
 use Rattle.predicate_semantics.specs.Program.{Program, stop, stop_word}
-use Rattle.predicate_semantics.specs.State.{Result, Effect, goes, sets, stores, Attempted, advanced, apply}
+use Rattle.predicate_semantics.specs.State.{RunResult, Effect, goes, sets, stores, Attempted, advanced, apply}
 use Rattle.predicate_semantics.specs.Memory.{write}
 use Rattle.predicate_semantics.specs.Tested.{Tested, passed, refused, refuse, require, allow, ◌>>=◌}
 use Rattle.predicate_semantics.specs.Lane.{LaneState, Setup, Ended, on, count_of_lanes, memory_of, reg, agreed, inside, room_for, fetch, execute, attempt, step, finish_events, finish, run, begin, start_tests, start, lane_run, written_bytes}
@@ -174,7 +174,7 @@ module _ (number : ℕ) (p : Program) (l : Setup) (rows entries : ℕ) (h : Lend
   -- ---- how the two runs end: the same, or refused with less
   data Lifted : Ended → Ended → Type 0 where
     alike : {e : Ended} → Lifted e e
-    lifted : {s : LaneState} {e : Ended} → Later s e.state → ((r : Result) → e.answer ≡ passed r → Beyond l e.state)
+    lifted : {s : LaneState} {e : Ended} → Later s e.state → ((r : RunResult) → e.answer ≡ passed r → Beyond l e.state)
         → Lifted (record { state = s; answer = refused (plain number) }) e
 
   lifted_on : (s : LaneState) {m t : Tested LaneState} {f g : LaneState → Ended} → Unless number (Beyond l) m t → ((u : LaneState) → Lifted (f u) (g u))
@@ -208,7 +208,7 @@ module _ (number : ℕ) (p : Program) (l : Setup) (rows entries : ℕ) (h : Lend
       go (lifted a b) = record { same = λ q. absurd (q refl); steps = a.steps; trace = (a.rest, a.trace) }
 
   -- beside an accepted run with more: the same, or refused where that one goes beyond what less has
-  beside : {C : Type 0} (limit : ℕ) (r : Result) → (lane_run p o limit).answer ≡ passed r
+  beside : {C : Type 0} (limit : ℕ) (r : RunResult) → (lane_run p o limit).answer ≡ passed r
       → (lane_run p l limit ≡ lane_run p o limit → C) → ((lane_run p l limit).answer ≡ refuse number 0 → Beyond l (lane_run p o limit).state → C) → C
   unfolding refuse
   beside {C} limit r q f g = go (lifted_lane_run limit) q f g
@@ -269,7 +269,7 @@ module _ (p : Program) (l : Setup) (limit : ℕ) where
   pub more_entries : MoreEntries p l limit
   more_entries entries h = only_lifts 14 p l l.rows entries (lends_entries l entries h) limit
 
-  module _ (r : Result) (q : (lane_run p l limit).answer ≡ passed r) where
+  module _ (r : RunResult) (q : (lane_run p l limit).answer ≡ passed r) where
     not_refused : {x : Refusal} → (lane_run p l limit).answer ≡ refused x → ⊥
     not_refused e = no_pass (sym e ∙ q)
 

@@ -8,7 +8,7 @@ use lib.Dec.{eqb}
 use borrow.Author.Tests.{eqb-false}
 use Rattle.predicate_semantics.specs.Choice.{choose}
 use Rattle.predicate_semantics.specs.Program.{Program, stop}
-use Rattle.predicate_semantics.specs.State.{Result, apply}
+use Rattle.predicate_semantics.specs.State.{RunResult, apply}
 use Rattle.predicate_semantics.specs.Tested.{Tested, passed, refused, refuse}
 use Rattle.predicate_semantics.specs.Lane.{LaneState, Setup, Ended, on, step, run, begin, start, lane_run}
 use Rattle.predicate_semantics.specs.Scalar.{ScalarState, scalar_run}
@@ -144,11 +144,11 @@ module _ (p : Program) (l : Setup) where
       go (refused r) q h = absurd (omega arith)
 
 -- the scalar run, whose answer has its steps
-abbrev answered : Option Result → ℕ
+abbrev answered : Option RunResult → ℕ
 answered none = 0
 answered (some r) = r.steps
 
-abbrev Answers : Option Result → Type 0
+abbrev Answers : Option RunResult → Type 0
 Answers none = ⊥
 Answers (some r) = Unit {0}
 
@@ -166,25 +166,25 @@ module _ (p : Program) where
       let made : apply Scalar.write p.symbols.event_count s seen.0.fetched seen.0.effect ≡ t = cc seen.2 in
       ap (λ (x : ScalarState). x.steps) (sym made) ∙ steps_apply Scalar.write _ s seen.0.fetched seen.0.effect
 
-  scalar_finish_steps : (s : ScalarState) (r : Result) → Scalar.finish p s ≡ some r → s.steps ≡ r.steps
+  scalar_finish_steps : (s : ScalarState) (r : RunResult) → Scalar.finish p s ≡ some r → s.steps ≡ r.steps
   unfolding Scalar.finish
   scalar_finish_steps s r q =
       let counted = through _ q in
       let tested = through _ counted.2 in
       ap answered (through _ tested.2).2
 
-  abbrev scalar_limiting : Limiting ScalarState (Option Result)
+  abbrev scalar_limiting : Limiting ScalarState (Option RunResult)
   scalar_limiting = record { run = Scalar.run p; out = λ _. none; steps = λ s. s.steps; completed = answered; Arrived = Answers }
 
   scalar_turn : (s : ScalarState) → Turn scalar_limiting s
   unfolding Scalar.run choose Scalar.◌>>=◌
   scalar_turn s = go (eqb s.pc stop) refl (Scalar.finish p s) refl (Scalar.step p s) refl
     where
-      at_stop_same : eqb s.pc stop ≡ true → (o : Option Result) → Scalar.finish p s ≡ o → (limit : ℕ) → Scalar.run p limit s ≡ o
+      at_stop_same : eqb s.pc stop ≡ true → (o : Option RunResult) → Scalar.finish p s ≡ o → (limit : ℕ) → Scalar.run p limit s ≡ o
       at_stop_same b o q zero = rw b q
       at_stop_same b o q (suc limit) = rw b q
 
-      go : (b : Bool) → eqb s.pc stop ≡ b → (o : Option Result) → Scalar.finish p s ≡ o → (m : Option ScalarState) → Scalar.step p s ≡ m → Turn scalar_limiting s
+      go : (b : Bool) → eqb s.pc stop ≡ b → (o : Option RunResult) → Scalar.finish p s ≡ o → (m : Option ScalarState) → Scalar.step p s ≡ m → Turn scalar_limiting s
       go true b none q m d = ends none (record { always = at_stop_same b none q; most = omega arith; least = λ a. absurd a })
       go true b (some r) q m d = ends (some r) (record {
         always = at_stop_same b (some r) q;

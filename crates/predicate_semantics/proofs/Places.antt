@@ -9,7 +9,7 @@ use lib.ListN.{get_or, length, replicate, get_or-replicate, length-append, get_o
 use borrow.Author.Tests.{eq-eqb}
 use Rattle.lane_word.specs.Word.{zip, every}
 use Rattle.lane_word.specs.Range.{inputs}
-use Rattle.lane_word.proofs.Tab.{get_d_map, get_d_zip, length_inputs, get_d_inputs}
+use Rattle.lane_word.proofs.Lists.{get_d_map, get_d_zip, length_inputs, get_d_inputs}
 use Rattle.predicate_semantics.proofs.Lists.{both_left, both_right}
 
 -- the values of a list at places

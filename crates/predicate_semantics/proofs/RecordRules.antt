@@ -1,4 +1,5 @@
 -- The record's rules hold of every run.
+use Rattle.std.specs.Prelude.{Err, Ok, Result}
 use mathlib.Core.Path.{◌≡◌, refl, sym, ◌∙◌, subst}
 use mathlib.Core.Bool.{Bool, true, false, ◌&&◌, cond}
 use mathlib.Core.Logic.{◌⊎◌, inl, inr}
@@ -15,11 +16,10 @@ use Rattle.rv32_arithmetic.specs.Bits.{join}
 use Rattle.riscv_decode.specs.declared.Fetched.{Fetched}
 use Rattle.riscv_decode.specs.declared.Operation.{Operation}
 use Rattle.lane_word.specs.declared.LaneWord.{LaneWord}
-use Rattle.lane_word.specs.declared.Uniform.TheVariants.{Value, Unknown, Uneven}
 use Rattle.lane_word.specs.Word.{constant, domain, zip, unary, binary, every, uniform_of}
 use Rattle.lane_word.specs.Range.{inputs, input_count}
 use Rattle.lane_word.specs.declared.InputRange.{InputRange}
-use Rattle.lane_word.proofs.Tab.{length_inputs, get_d_inputs}
+use Rattle.lane_word.proofs.Lists.{length_inputs, get_d_inputs}
 use Rattle.predicate_action.specs.declared.Action.{Action}
 use Rattle.predicate_action.specs.declared.Action.TheVariants.{Nothing, Literal, Compute, ComputeImmediate, Jump, JumpTo, Branch, Load, Store}
 use Rattle.predicate_action.specs.Meaning.{meaning}
@@ -27,12 +27,10 @@ use Rattle.predicate_action.proofs.Targets.{Leads, meaning_leads}
 use Rattle.predicate_answer.specs.declared.CompiledMmioEvent.{CompiledMmioEvent}
 use Rattle.predicate_trace.specs.declared.PredicateControlStep.{PredicateControlStep}
 use Rattle.predicate_answer.specs.declared.CallError.TheVariants as call
-use Rattle.predicate_answer.specs.declared.CallVerdict.{CallVerdict}
-use Rattle.predicate_answer.specs.declared.CallVerdict.TheVariants as verdict
 use Rattle.predicate_semantics.specs.Choice.{choose}
 use Rattle.predicate_semantics.specs.Program.{Program, memory_end, stop, stop_word, image_end, sized, in_memory, symbols_placed}
 use Rattle.predicate_answer.specs.Blank.{max_events}
-use Rattle.predicate_semantics.specs.State.{Result, Effect, goes, sets, stores, Attempted, fill, at_start, recorded, advanced, apply}
+use Rattle.predicate_semantics.specs.State.{RunResult, Effect, goes, sets, stores, Attempted, fill, at_start, recorded, advanced, apply}
 use Rattle.predicate_semantics.specs.Memory.{Written, LaneBytes, put, read, write}
 use Rattle.predicate_semantics.specs.Tested.{Tested, passed, refused, refuse, ◌>>=◌}
 use Rattle.predicate_answer.specs.Refusal.{Refusal, of_call}
@@ -47,6 +45,8 @@ use Rattle.predicate_semantics.proofs.Laws.{run_stop, steps_apply, write_grows}
 use Rattle.predicate_semantics.proofs.Order.{start_order}
 use Rattle.predicate_semantics.proofs.Always.{no_pass, Always, stops, gives, bind, weaken, always_require, always_found, always_choose, passes, refuses}
 use Rattle.predicate_semantics.proofs.Written.{distinct_none, distinct_write, distinct_fits}
+use Rattle.lane_word.specs.declared.UniformError.TheVariants.{Unknown, Uneven}
+use Rattle.predicate_answer.specs.declared.CallError.{CallError}
 
 -- a trace goes on from where it leads
 chain_add : (from to : ℕ) (t : List PredicateControlStep) (c : PredicateControlStep) → Chain from t to → c.program_counter ≡ to
@@ -169,7 +169,7 @@ module _ (p : Program) (l : Setup) where
   always_agreed role w t = go w.known (every (get_or w.values 0 0) w.values)
     where
       go : (b c : Bool)
-          → Always Proper (λ v. v ≡ get_or w.values 0 0) (agreed_as role (cond b (cond c (Value (get_or w.values 0 0)) Uneven) Unknown))
+          → Always Proper (λ v. v ≡ get_or w.values 0 0) (agreed_as role (cond b (cond c (Ok (get_or w.values 0 0)) (Err Uneven)) (Err Unknown)))
       go true true = gives refl
       go true false = stops _ t
       go false c = stops _ t
@@ -257,7 +257,7 @@ module _ (p : Program) (l : Setup) where
       weaken (always_events from m (suc i) _ ls) (λ es e. e ∙ simp length-append (omega arith)))
 
   -- what an answer has from the state at stop
-  record Answered (s : LaneState) (r : Result) : Type 0 where
+  record Answered (s : LaneState) (r : RunResult) : Type 0 where
     same_steps : s.steps ≡ r.steps
     same_trace : s.trace ≡ r.trace
     few : length r.events ≤ max_events
@@ -282,7 +282,7 @@ module _ (p : Program) (l : Setup) where
           omega (arith, leb→le count max_events (both_left few (eqb count n) t), eqb→eq count n (both_right few (eqb count n) t))
 
   -- an event for each location, and no more than are kept
-  pub events_located : (s : LaneState) (r : Result) → finish p l s ≡ passed r → (length r.events ≡ length s.locations) × (length r.events ≤ max_events)
+  pub events_located : (s : LaneState) (r : RunResult) → finish p l s ≡ passed r → (length r.events ≡ length s.locations) × (length r.events ≤ max_events)
   events_located s r q = let a : Answered s r = passes (rw q at (always_finish s)) in (a.as_located, a.few)
 
   -- what holds where a run ends: of its trace, its steps, and an answer at stop
@@ -349,13 +349,13 @@ module _ (p : Program) (l : Setup) where
       order : StartOrder p l
       order = start_order p l
 
-      go : (a b : Bool) (t : CallVerdict) (d : Bool) → sized (length p.image) ≡ a → symbols_placed p.symbols ≡ b → l.choice ≡ t → leb 4 l.rows ≡ d
+      go : (a b : Bool) (t : Result (Unit {0}) CallError) (d : Bool) → sized (length p.image) ≡ a → symbols_placed p.symbols ≡ b → l.choice ≡ t → leb 4 l.rows ≡ d
           → Always Proper (λ s. Kept p l s × (s ≡ begin p l)) (start p l)
       go false b t d e f c r = rw (order.image e) (stops _ tt)
       go true false t d e f c r = rw (order.symbols e f) (stops _ tt)
-      go true true (verdict.Refused q) d e f c r = rw (order.choice e f q c) (stops (of_call q) c)
-      go true true verdict.Passed false e f c r = rw (order.rows e f c r) (stops _ tt)
-      go true true verdict.Passed true e f c r =
+      go true true (Err q) d e f c r = rw (order.choice e f q c) (stops (of_call q) c)
+      go true true (Ok tt) false e f c r = rw (order.rows e f c r) (stops _ tt)
+      go true true (Ok tt) true e f c r =
           rw (order.none e f c r)
           (gives (begin_kept (fit (subst T (sym e) tt)) (entry_fits (subst T (sym f) tt)) (leb→le 4 l.rows (subst T (sym r) tt)), refl))
 
@@ -373,7 +373,7 @@ module _ (p : Program) (l : Setup) where
       shown : (s : LaneState) → Traced p l s → s.steps ≤ limit → Completed p l limit s
       shown s t b = record { counted = t.counted; lent = t.entered; bound = b; chain = t.chained; words = t.words }
 
-  pub accepted : (limit : ℕ) (r : Result) → (lane_run p l limit).answer ≡ passed r → Accepted l (lane_run p l limit).state r
+  pub accepted : (limit : ℕ) (r : RunResult) → (lane_run p l limit).answer ≡ passed r → Accepted l (lane_run p l limit).state r
   accepted limit r e = shown _ (passes (rw e at (ends_lane_run limit).2))
     where
       shown : (s : LaneState) → Kept p l s × Answered s r × (s.pc ≡ stop) → Accepted l s r
@@ -391,36 +391,36 @@ module _ (p : Program) (l : Setup) where
   refused_proper limit r e = refuses (rw e at (ends_lane_run limit).2)
 
 -- where the run accepts, the caller's choice passed
-module _ (p : Program) (l : Setup) (limit : ℕ) (r : Result) (e : (lane_run p l limit).answer ≡ passed r) where
-  pub chosen : l.choice ≡ verdict.Passed
+module _ (p : Program) (l : Setup) (limit : ℕ) (r : RunResult) (e : (lane_run p l limit).answer ≡ passed r) where
+  pub chosen : l.choice ≡ Ok tt
   unfolding lane_run on refuse
   chosen = go (sized (length p.image)) (symbols_placed p.symbols) l.choice refl refl refl
     where
       order : StartOrder p l
       order = start_order p l
 
-      go : (a b : Bool) (t : CallVerdict) → sized (length p.image) ≡ a → symbols_placed p.symbols ≡ b → l.choice ≡ t → t ≡ verdict.Passed
+      go : (a b : Bool) (t : Result (Unit {0}) CallError) → sized (length p.image) ≡ a → symbols_placed p.symbols ≡ b → l.choice ≡ t → t ≡ Ok tt
       go false b t f g c = absurd (no_pass (rw (order.image f) at e))
       go true false t f g c = absurd (no_pass (rw (order.symbols f g) at e))
-      go true true (verdict.Refused q) f g c = absurd (no_pass (rw (order.choice f g q c) at e))
-      go true true verdict.Passed f g c = refl
+      go true true (Err q) f g c = absurd (no_pass (rw (order.choice f g q c) at e))
+      go true true (Ok tt) f g c = refl
 
 -- a refused choice is not taken
-abbrev Taken : CallVerdict → Type 0
-Taken verdict.Passed = Unit {0}
-Taken (verdict.Refused e) = ⊥
+abbrev Taken : Result (Unit {0}) CallError → Type 0
+Taken (Ok tt) = Unit {0}
+Taken (Err e) = ⊥
 
 -- .. so the first input of its range is not above the last
-pub ordered : (range : InputRange) → range_test range ≡ verdict.Passed → range.first ≤ range.last
+pub ordered : (range : InputRange) → range_test range ≡ Ok tt → range.first ≤ range.last
 unfolding range_test
 ordered range = go (leb range.first range.last) refl
   where
-    go : (b : Bool) → leb range.first range.last ≡ b → cond b verdict.Passed (verdict.Refused call.FirstAboveLast) ≡ verdict.Passed → range.first ≤ range.last
+    go : (b : Bool) → leb range.first range.last ≡ b → cond b (Ok (tt {0})) (Err call.FirstAboveLast) ≡ Ok tt → range.first ≤ range.last
     go true b q = leb-true range.first range.last b
     go false b q = absurd (subst Taken (sym q) tt)
 
 -- the numbers are those of its inputs
-pub execution_over : (c : Call) (s : LaneState) (r : Result) → c.range.first ≤ c.range.last
+pub execution_over : (c : Call) (s : LaneState) (r : RunResult) → c.range.first ≤ c.range.last
     → execution (program_in c) (setup_of c) s r ≡ numbers_over c.range s.steps (length s.memory) r
 unfolding execution setup_of count_of_lanes lane_operations written_bytes
 execution_over c s r h =
@@ -429,13 +429,13 @@ execution_over c s r h =
     rw (first, length_inputs range.first (input_count range))
 
 -- inputs that are more than one differ
-differ : (first count : ℕ) → 1 < count → uniform_of (domain (inputs first count)) ≡ Uneven
+differ : (first count : ℕ) → 1 < count → uniform_of (domain (inputs first count)) ≡ Err Uneven
 unfolding uniform_of domain inputs every
 differ first zero h = absurd (omega arith)
 differ first (suc zero) h = absurd (omega arith)
 differ first (suc (suc n)) h = rw (eq-eqb first first refl, ne_eqb (suc first) first (λ q. omega (arith, q)))
 
-always_on : {R : Refusal → Type 0} {P : LaneState → Type 0} {Q : Result → Type 0} (s : LaneState) {m : Tested LaneState} (f : LaneState → Ended)
+always_on : {R : Refusal → Type 0} {P : LaneState → Type 0} {Q : RunResult → Type 0} (s : LaneState) {m : Tested LaneState} (f : LaneState → Ended)
     → Always R P m → ((t : LaneState) → P t → Always R Q (f t).answer) → Always R Q (on s m f).answer
 unfolding on
 always_on s f (stops r t) h = stops r t
@@ -462,7 +462,7 @@ module _ (c : Call) where
       always_on _ _ (always_start p l)
       (λ t k. rw (k.1, run_stop p l max_steps (begin p l) b, uneven h) (stops _ tt))
 
-  module _ (r : Result) (e : (run_of c).answer ≡ passed r) where
+  module _ (r : RunResult) (e : (run_of c).answer ≡ passed r) where
     some_input : 1 ≤ input_count c.range
     unfolding run_of setup_of
     some_input = omega (arith, ordered c.range (chosen p l max_steps r e))

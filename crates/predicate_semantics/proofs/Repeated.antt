@@ -11,7 +11,7 @@ use Rattle.rv32_arithmetic.specs.Bits.{join}
 use Rattle.rv32_arithmetic.specs.Value.{value_of}
 use Rattle.lane_word.specs.declared.LaneWord.{LaneWord}
 use Rattle.lane_word.specs.Word.{unknown, constant, domain, unary, binary, every, zip, uniform_of}
-use Rattle.lane_word.proofs.Tab.{length_zip}
+use Rattle.lane_word.proofs.Lists.{length_zip}
 use Rattle.predicate_action.specs.declared.Action.{Action}
 use Rattle.predicate_action.specs.declared.Action.TheVariants.{Nothing, Literal, Compute, ComputeImmediate, Jump, JumpTo, Branch, Load, Store}
 use Rattle.predicate_action.specs.Meaning.{extension_of}
@@ -19,7 +19,7 @@ use Rattle.predicate_answer.specs.Refusal.{Refusal}
 use Rattle.predicate_answer.specs.declared.CompiledMmioEvent.{CompiledMmioEvent}
 use Rattle.predicate_semantics.specs.Choice.{choose}
 use Rattle.predicate_semantics.specs.Program.{Program, stop, stop_word, stack_pointer, image_end, initial}
-use Rattle.predicate_semantics.specs.State.{Result, Attempted, advanced, apply}
+use Rattle.predicate_semantics.specs.State.{RunResult, Attempted, advanced, apply}
 use Rattle.predicate_semantics.specs.Memory.{Written, LaneBytes, byte_at, put, lane_bytes, read, write}
 use Rattle.predicate_semantics.specs.Tested.{Tested, passed, refused, ◌>>=◌}
 use Rattle.predicate_semantics.specs.Lane.{LaneState, Setup, Ended, count_of_lanes, agreed, room_for, access, access_agreed, fetch_four, fetch, event_at, events, reg, execute, memory_of, attempt, step, finish_events, finish, run, begin, start_tests, start, lane_run, on}
@@ -307,7 +307,7 @@ pub record SameRun (a b : Ended) : Type 0 where
   pub trace : a.state.trace ≡ b.state.trace
   pub written : length a.state.memory ≡ length b.state.memory
 
-same_seen : {n : ℕ} {ks : List ℕ} {s t : LaneState} {a b : Tested Result} → SpreadState n ks s t → a ≡ b
+same_seen : {n : ℕ} {ks : List ℕ} {s t : LaneState} {a b : Tested RunResult} → SpreadState n ks s t → a ≡ b
     → SameRun (record { state = s; answer = a }) (record { state = t; answer = b })
 same_seen (spread h) q = record { answer = q; steps = refl; trace = refl; written = bytes_length h.mem }
 

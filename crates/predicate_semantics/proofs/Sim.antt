@@ -4,7 +4,7 @@ use mathlib.Core.Bool.{Bool, true, false}
 use mathlib.Core.Option.{Option, none, some}
 use Prim.Native.Nat.{ℕ}
 use Rattle.predicate_semantics.specs.Choice.{choose}
-use Rattle.predicate_semantics.specs.State.{Result}
+use Rattle.predicate_semantics.specs.State.{RunResult}
 use Rattle.predicate_semantics.specs.Tested.{Tested, passed, refused, refuse, require, found}
 use Rattle.predicate_answer.specs.Refusal.{Refusal}
 use Rattle.predicate_semantics.specs.Tested as Lane
@@ -69,14 +69,14 @@ sim_choose true x y = x tt
 sim_choose false x y = y tt
 
 -- the same for runs, which also hand back the state that they end in
-pub sim_ended : {B : Type 0} {R : Result → B → Type 0} (b : Bool) (f g : Unit {0} → Ended) {h k : Unit {0} → Option B}
+pub sim_ended : {B : Type 0} {R : RunResult → B → Type 0} (b : Bool) (f g : Unit {0} → Ended) {h k : Unit {0} → Option B}
     → ((u : Unit {0}) → Sim R (f u).answer (h u)) → ((u : Unit {0}) → Sim R (g u).answer (k u))
     → Sim R (choose b f g).answer (choose b h k)
 unfolding choose
 sim_ended true f g x y = x tt
 sim_ended false f g x y = y tt
 
-pub bind_ended : {B D : Type 0} {R : LaneState → B → Type 0} {S : Result → D → Type 0} (s : LaneState) {m : Tested LaneState} {o : Option B}
+pub bind_ended : {B D : Type 0} {R : LaneState → B → Type 0} {S : RunResult → D → Type 0} (s : LaneState) {m : Tested LaneState} {o : Option B}
     (f : LaneState → Ended) {g : B → Option D}
     → Sim R m o → ((a : LaneState) (b : B) → R a b → Sim S (f a).answer (g b)) → Sim S (on s m f).answer (Scalar.◌>>=◌ o g)
 unfolding on Scalar.◌>>=◌

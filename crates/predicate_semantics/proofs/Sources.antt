@@ -1,11 +1,11 @@
 -- What is fetched is what its word decodes to, so that its sources are registers of the run. Assumes nothing.
+use Rattle.std.specs.Prelude.{None, Option, Some}
 use mathlib.Core.Bool.{Bool, true, false}
-use mathlib.Core.Option.{Option, none, some, none-ne-some}
+use mathlib.Core.Option as Math
+use mathlib.Core.Option.{none, some, none-ne-some}
 use mathlib.Core.Path.{◌≡◌, refl, ap, ◌∙◌, subst}
 use Prim.Native.Nat.{ℕ, ◌%◌}
 use lib.Dec.{eqb}
-use Rattle.riscv_decode.specs.declared.Decoded.{Decoded}
-use Rattle.riscv_decode.specs.declared.Decoded.TheVariants.{Known, Refused}
 use Rattle.riscv_decode.specs.declared.Fetched.{Fetched}
 use Rattle.riscv_decode.specs.declared.Operation.{Operation}
 use Rattle.riscv_decode.specs.Decode.{decode_of}
@@ -29,7 +29,7 @@ module _ (core : Core) (steps : ℕ) where
   unfolding decode_word ◌>>=◌ found refuse
   word_decodes word n = go (core.decode steps word) refl
     where
-      go : (d : Option Operation) → core.decode steps word ≡ d
+      go : (d : Math.Option Operation) → core.decode steps word ≡ d
           → Decodes core steps (found 9 d >>= λ o. passed (record { operation = o; length = n; word = word }))
       go (some o) e = e
       go none e = tt
@@ -60,6 +60,6 @@ pub standing_names : (steps word at : ℕ) (o : Operation) → standing_core.dec
 unfolding standing_core decoded_operation
 standing_names steps word at o = go (decode_of word) refl
   where
-    go : (d : Decoded) → decode_of word ≡ d → decoded_operation d ≡ some o → ReadsBelow standing_core.registers (reading_of (meaning o at))
-    go (Known k) e q = let h : k ≡ o = cc q in sources_below word at o (e ∙ ap (λ (x : Operation). Known x) h)
-    go Refused e q = absurd (none-ne-some o q)
+    go : (d : Option Operation) → decode_of word ≡ d → decoded_operation d ≡ some o → ReadsBelow standing_core.registers (reading_of (meaning o at))
+    go (Some k) e q = let h : k ≡ o = cc q in sources_below word at o (e ∙ ap (λ (x : Operation). Some x) h)
+    go None e q = absurd (none-ne-some o q)

@@ -1,4 +1,5 @@
 -- The run over all of a word's lanes, of which those without an input of their own repeat lane 0's, is the run over a range's inputs. Assumes nothing.
+use Rattle.std.specs.Prelude.{Err, Ok, Result}
 use mathlib.Core.Path.{◌≡◌, refl, sym, ◌∙◌}
 use mathlib.Core.Bool.{Bool, true, false}
 use Prim.Native.Nat.{ℕ, ◌-◌, ◌≤◌}
@@ -8,10 +9,8 @@ use Rattle.lane_word.specs.declared.InputRange.{InputRange}
 use Rattle.lane_word.specs.Word.{lanes}
 use Rattle.lane_word.specs.Range.{input_count}
 use Rattle.lane_word.specs.Spare.{lane_inputs}
-use Rattle.lane_word.proofs.Tab.{length_inputs}
+use Rattle.lane_word.proofs.Lists.{length_inputs}
 use Rattle.predicate_answer.specs.declared.CallError.{CallError}
-use Rattle.predicate_answer.specs.declared.CallVerdict.{CallVerdict}
-use Rattle.predicate_answer.specs.declared.CallVerdict.TheVariants as verdict
 use Rattle.predicate_answer.specs.Refusal.{of_call}
 use Rattle.predicate_semantics.specs.declared.Rv32SymbolLayout.{Rv32SymbolLayout}
 use Rattle.predicate_semantics.specs.Program.{Program, sized, symbols_placed}
@@ -28,7 +27,7 @@ unfoldable pub lane_setup : Call → Setup
 lane_setup c = record { inputs = lane_inputs c.range; choice = range_test c.range; rows = c.rows; entries = c.entries }
 
 -- a run that its caller's choice refuses never starts
-never_starts : (size : ℕ) (symbols : Rv32SymbolLayout) (e : CallError) (rows : ℕ) (u : Unit {0}) → start_tests size symbols (verdict.Refused e) rows ≡ passed u → ⊥
+never_starts : (size : ℕ) (symbols : Rv32SymbolLayout) (e : CallError) (rows : ℕ) (u : Unit {0}) → start_tests size symbols (Err e) rows ≡ passed u → ⊥
 unfolding start_tests ◌>>=◌ require refuse allow
 never_starts size symbols e rows u = go (sized size) (symbols_placed symbols)
   where
@@ -57,7 +56,7 @@ module _ (p : Program) (c : Call) (limit : ℕ) where
     same_entries = refl;
   }) limit
 
-  refused_run_spared : (e : CallError) → range_test range ≡ verdict.Refused e → Spared
+  refused_run_spared : (e : CallError) → range_test range ≡ Err e → Spared
   unfolding setup_of lane_setup lane_run start on ◌>>=◌ begin
   refused_run_spared e h = go (start_tests (length p.image) p.symbols (range_test range) c.rows) refl
     where
@@ -68,6 +67,6 @@ module _ (p : Program) (c : Call) (limit : ℕ) where
   pub spare_run : SameRun (lane_run p (setup_of c) limit) (lane_run p (lane_setup c) limit)
   spare_run = go (range_test range) refl
     where
-      go : (t : CallVerdict) → range_test range ≡ t → Spared
-      go verdict.Passed h = ordered_run (ordered range h)
-      go (verdict.Refused e) h = refused_run_spared e h
+      go : (t : Result (Unit {0}) CallError) → range_test range ≡ t → Spared
+      go (Ok tt) h = ordered_run (ordered range h)
+      go (Err e) h = refused_run_spared e h

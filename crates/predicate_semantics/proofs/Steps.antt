@@ -1,4 +1,5 @@
 -- The lane run simulates each scalar run: each part of a step, the step, n steps, and the whole run.
+use Rattle.std.specs.Prelude.{Result}
 use mathlib.Core.Path.{◌≡◌, refl, subst}
 use mathlib.Core.Bool.{Bool, true, false}
 use mathlib.Core.Option.{Option, none, some, none-ne-some}
@@ -22,7 +23,6 @@ use Rattle.predicate_semantics.specs.State.{Effect, Attempted, advanced, apply}
 use Rattle.predicate_semantics.specs.Memory.{Written, LaneBytes, lane_bytes}
 use Rattle.predicate_semantics.specs.Memory as Memory
 use Rattle.predicate_semantics.specs.Tested.{Tested, refuse, require, if_passed}
-use Rattle.predicate_answer.specs.declared.CallVerdict.{CallVerdict}
 use Rattle.predicate_semantics.specs.Lane.{LaneState, Setup, count_of_lanes, reg}
 use Rattle.predicate_semantics.specs.Lane as Lane
 use Rattle.predicate_semantics.specs.Scalar.{Bytes, ScalarState}
@@ -30,6 +30,7 @@ use Rattle.predicate_semantics.specs.Scalar as Scalar
 use Rattle.predicate_semantics.proofs.Sim.{Sim, stops, agrees, bind, bind_same, bind_lane, bind_value, bind_into, sim_require, sim_last, sim_found, sim_choose, sim_ended, bind_ended}
 use Rattle.predicate_semantics.proofs.Related.{Pairs, SameEffect, same_goes, same_sets, same_stores, SameAttempt, same_attempt, pairs_at, pairs_assign, pairs_fill, related_start}
 use Rattle.predicate_semantics.proofs.Values.{at_unary, at_binary, at_unknown, sim_agreed, OneLane, In, Mem, at_constant, at_domain, at_read, mem_write, mem_initial}
+use Rattle.predicate_answer.specs.declared.CallError.{CallError}
 
 -- the scalar state with a lane state's progress
 abbrev pub view : LaneState → List ℕ → Bytes → ScalarState
@@ -43,7 +44,7 @@ sim_room_for : (end rows a n written : ℕ) → Sim ◌≡◌ (Lane.room_for end
 unfolding Lane.room_for Scalar.room_for
 sim_room_for end rows a n written = bind_same (sim_inside a n) (λ _. bind_into (sim_require 11 _) (λ u v e. sim_last _ v))
 
-sim_start_tests : (size : ℕ) (symbols : Rv32SymbolLayout) (choice : CallVerdict) (rows : ℕ)
+sim_start_tests : (size : ℕ) (symbols : Rv32SymbolLayout) (choice : Result (Unit {0}) CallError) (rows : ℕ)
     → Sim ◌≡◌ (Lane.start_tests size symbols choice rows) (Scalar.start_tests size symbols)
 unfolding Lane.start_tests Scalar.start_tests
 sim_start_tests size symbols choice rows = bind_same (sim_require 1 _) (λ _. bind_into (sim_require 2 _) (λ u v e. bind_lane _ (λ _. sim_last _ v)))

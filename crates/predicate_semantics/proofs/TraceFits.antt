@@ -11,7 +11,7 @@ use Rattle.little_endian.specs.Pack.{AllFit}
 use Rattle.riscv32imc.specs.Constants.{max_steps}
 use Rattle.predicate_answer.specs.Blank.{no_events}
 use Rattle.predicate_trace.specs.declared.PredicateControlStep.{PredicateControlStep}
-use Rattle.predicate_semantics.specs.State.{Result, result_read}
+use Rattle.predicate_semantics.specs.State.{RunResult, result_read}
 use Rattle.predicate_semantics.specs.Tested.{passed}
 use Rattle.predicate_semantics.specs.Lane.{execution}
 use Rattle.predicate_semantics.specs.RecordRules.{Chain, Words, Completed, Accepted}
@@ -41,7 +41,7 @@ module _ (c : Call) where
   trace_fits = fits_chain _ _ (run_of c).state.trace call_completed.chain (call_completed.words standing_expands_to_words)
 
   -- an accepted run's result, read off its numbers, its events, and its trace over any other bytes
-  module _ (r : Result) (q : (run_of c).answer ≡ passed r) where
+  module _ (r : RunResult) (q : (run_of c).answer ≡ passed r) where
     pub call_accepted : Accepted (setup_of c) (run_of c).state r
     unfolding run_of
     call_accepted = accepted (program_in c) (setup_of c) max_steps r q

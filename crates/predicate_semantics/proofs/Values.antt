@@ -1,4 +1,5 @@
 -- What lane k of a lane word, of the registers and of memory says of one scalar run.
+use Rattle.std.specs.Prelude.{Err, Ok}
 use mathlib.Core.Path.{◌≡◌, refl, sym, ◌∙◌, ap, subst}
 use mathlib.Core.Bool.{Bool, true, false, false≢true, cond}
 use mathlib.Core.Option.{some}
@@ -9,9 +10,8 @@ use lib.ListN.{get_elem?, get_or, length, length-map, length-replicate}
 use borrow.Author.Tests.{eqb-true, eqb-false}
 use Rattle.rv32_arithmetic.specs.Bits.{join}
 use Rattle.lane_word.specs.declared.LaneWord.{LaneWord}
-use Rattle.lane_word.specs.declared.Uniform.TheVariants.{Value, Unknown, Uneven}
 use Rattle.lane_word.specs.Word.{unknown, constant, domain, unary, binary, every, uniform_of}
-use Rattle.lane_word.proofs.Tab.{length_zip}
+use Rattle.lane_word.proofs.Lists.{length_zip}
 use Rattle.predicate_semantics.specs.Choice.{choose}
 use Rattle.predicate_semantics.specs.Program.{Program, initial}
 use Rattle.predicate_semantics.specs.Memory.{Written, byte_at, lane_bytes}
@@ -23,6 +23,7 @@ use Rattle.predicate_semantics.specs.Scalar as Scalar
 use Rattle.predicate_semantics.proofs.Lists.{map_at, zip_at, replicate_at, both_left, both_right, every_at}
 use Rattle.predicate_semantics.proofs.Sim.{Sim, stops, agrees}
 use Rattle.predicate_semantics.proofs.Related.{related_choose}
+use Rattle.lane_word.specs.declared.UniformError.TheVariants.{Unknown, Uneven}
 
 -- w has n lanes, and its lane k is v, if it is known
 pub record At (n k : ℕ) (w : LaneWord) (v : ℕ) : Type 0 where
@@ -55,7 +56,7 @@ sim_agreed {k = k} role {w} {v} h =
     go w.known (every (get_or w.values 0 0) w.values) h.value (λ t e. every_at (get_or w.values 0 0) w.values k t e)
   where
     go : (b c : Bool) → (T b → get_elem? w.values k ≡ some v) → (T c → get_elem? w.values k ≡ some v → get_or w.values 0 0 ≡ v)
-        → Sim ◌≡◌ (agreed_as role (cond b (cond c (Value (get_or w.values 0 0)) Uneven) Unknown)) (some v)
+        → Sim ◌≡◌ (agreed_as role (cond b (cond c (Ok (get_or w.values 0 0)) (Err Uneven)) (Err Unknown))) (some v)
     go true true x y = agrees (y tt (x tt))
     go true false x y = stops
     go false c x y = stops

@@ -4,7 +4,7 @@ use Rattle.std.proofs.Math.Option.{none, some}
 use Rattle.riscv32imc.specs.Constants.{image_base}
 use Rattle.lane_word.specs.Range.{invalid_channels}
 use Rattle.predicate_semantics.specs.Program.{Program, stop}
-use Rattle.predicate_semantics.specs.State.{Result}
+use Rattle.predicate_semantics.specs.State.{RunResult}
 use Rattle.predicate_semantics.specs.Tested.{refuse}
 use Rattle.predicate_semantics.specs.Scalar.{scalar_run}
 use Rattle.predicate_semantics.specs.Lane.{Setup, lane_run}
@@ -37,5 +37,5 @@ module _ (p : Program) (l : Setup) where
 -- A scalar run that answers gives the same answer with every limit from its steps on, and none with a smaller one.
 abbrev pub ScalarLimit : Program → Type 0
 ScalarLimit p =
-    (limit other input : ℕ) (others : ℕ → ℕ) (r : Result) → scalar_run p limit input others ≡ some r
+    (limit other input : ℕ) (others : ℕ → ℕ) (r : RunResult) → scalar_run p limit input others ≡ some r
     → (r.steps ≤ other → scalar_run p other input others ≡ some r) × (other < r.steps → scalar_run p other input others ≡ none)

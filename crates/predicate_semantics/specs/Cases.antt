@@ -9,7 +9,7 @@ use Rattle.predicate_answer.specs.declared.PredicateTransducerExecution.{Predica
 use Rattle.predicate_answer.specs.Refusal.{number_of, role_in}
 use Rattle.predicate_semantics.specs.declared.Rv32SymbolLayout.{Rv32SymbolLayout}
 use Rattle.predicate_semantics.specs.Program.{stop}
-use Rattle.predicate_semantics.specs.State.{Result}
+use Rattle.predicate_semantics.specs.State.{RunResult}
 use Rattle.predicate_semantics.specs.Tested.{Tested, passed, refused}
 use Rattle.predicate_semantics.specs.Lane.{Ended, execution}
 use Rattle.predicate_semantics.specs.Standing.{scalar_answer}
@@ -40,7 +40,7 @@ unfoldable pub calling : List ℕ → ℕ → InputRange → ℕ → ℕ → Cal
 calling image entry range rows entries = record { image = image; program = record { symbols = symbols entry }; range = range; rows = rows; entries = entries }
 
 -- the answer, with the steps that the run completed, is the outcome
-unfoldable pub meets : Outcome → ℕ → Tested Result → Bool
+unfoldable pub meets : Outcome → ℕ → Tested RunResult → Bool
 meets (accepts value steps) completed (passed r) = eqb r.return_value value && eqb r.steps steps
 meets (accepts value steps) completed (refused r) = false
 meets (refuses number role steps) completed (passed r) = false
@@ -154,7 +154,7 @@ CasesHold = all_hold cases ≡ true
 abbrev pub ScalarRunsGiveZero : Type 0
 ScalarRunsGiveZero =
     (input : ℕ) (others : ℕ → ℕ)
-    → map (λ (r : Result). r.return_value)
+    → map (λ (r : RunResult). r.return_value)
     (scalar_answer (0xAD ∷ 0x8D ∷ 0x2E ∷ 0x85 ∷ 0x82 ∷ 0x80 ∷ []) (record { symbols = symbols image_base }) input others)
     ≡ some 0
 
@@ -168,7 +168,7 @@ control_step pc word bytes next = record {
 }
 
 -- Record: the result of the program's example, 05 45 82 80; its trace holds the words after expansion
-unfoldable pub example_result : Result
+unfoldable pub example_result : RunResult
 example_result = record {
   return_value = 1;
   steps = 2;
@@ -204,7 +204,7 @@ one_event =
     ++ return1
 
 -- .. its result
-unfoldable pub one_event_result : Result
+unfoldable pub one_event_result : RunResult
 one_event_result = record {
   return_value = 1;
   steps = 11;
@@ -237,7 +237,7 @@ one_event_execution = record {
 }
 
 -- one lane that is at stop from the first, 7 to 7: its result
-unfoldable pub one_input_result : Result
+unfoldable pub one_input_result : RunResult
 one_input_result = record { return_value = 7; steps = 0; trace = []; events = [] }
 
 -- .. its numbers
@@ -253,7 +253,7 @@ one_input_execution = record {
 }
 
 -- the run of a call ends in this result, with these numbers
-pub record EndsWith (c : Call) (r : Result) (e : PredicateTransducerExecution) : Type 0 where
+pub record EndsWith (c : Call) (r : RunResult) (e : PredicateTransducerExecution) : Type 0 where
   pub result : (run_of c).answer ≡ passed r
   pub numbers : execution (program_in c) (setup_of c) (run_of c).state r ≡ e
 

@@ -4,7 +4,7 @@ use Rattle.std.proofs.Math.Option.{some}
 use Rattle.std.proofs.Math.ListN.{get_elem?}
 use Rattle.lane_word.specs.declared.LaneWord.{LaneWord}
 use Rattle.predicate_semantics.specs.Program.{Program}
-use Rattle.predicate_semantics.specs.State.{Result}
+use Rattle.predicate_semantics.specs.State.{RunResult}
 use Rattle.predicate_semantics.specs.Tested.{passed}
 use Rattle.predicate_semantics.specs.Scalar.{ScalarState, scalar_run}
 use Rattle.predicate_semantics.specs.Scalar as Scalar
@@ -50,7 +50,7 @@ module _ (p : Program) (l : Setup) where
   -- reaches stop and answers the same.
   abbrev pub AcceptanceGuarantee : ℕ → Type 0
   AcceptanceGuarantee limit =
-      (r : Result) → (lane_run p l limit).answer ≡ passed r
+      (r : RunResult) → (lane_run p l limit).answer ≡ passed r
       → (k input : ℕ) → get_elem? l.inputs k ≡ some input
       → (others : ℕ → ℕ) → scalar_run p limit input others ≡ some r
 
@@ -58,6 +58,6 @@ module _ (p : Program) (l : Setup) where
 -- same result: return value, steps, trace, and the events with their locations.
 abbrev pub Guarantee : Type 0
 Guarantee =
-    (c : Call) (r : Result) → (run_of c).answer ≡ passed r
+    (c : Call) (r : RunResult) → (run_of c).answer ≡ passed r
     → (input : ℕ) → c.range.first ≤ input → input ≤ c.range.last
     → (others : ℕ → ℕ) → scalar_answer c.image c.program input others ≡ some r

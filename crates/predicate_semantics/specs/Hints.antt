@@ -1,10 +1,9 @@
 -- Control step: what is claimed of a hint's step, in both runs and from every state: it only advances.
 use Rattle.std.proofs.Math.Option.{some}
-use Rattle.std.specs.Prelude.{◌≡◌, List, [], ◌∷◌, ◌++◌, ℕ, suc, ◌^◌, ◌<◌, T, ltb}
+use Rattle.std.specs.Prelude.{◌≡◌, List, [], ◌∷◌, ◌++◌, ℕ, suc, ◌^◌, ◌<◌, T, ltb, Some}
 use Rattle.rv32_arithmetic.specs.Arithmetic.{add}
 use Rattle.riscv32imc.specs.Expansion.{expand}
 use Rattle.riscv32imc.specs.Hints.{hint}
-use Rattle.riscv32imc.specs.declared.compressed.Expanded.TheVariants.{Word}
 use Rattle.predicate_semantics.specs.declared.Rv32Program.{Rv32Program}
 use Rattle.predicate_semantics.specs.State.{State}
 use Rattle.predicate_semantics.specs.Standing.{program_of}
@@ -42,4 +41,4 @@ pub record OnlyAdvances (image : List ℕ) (program : Rv32Program) (half word : 
 abbrev pub HintsOnlyAdvance : Type 0
 HintsOnlyAdvance =
     (image : List ℕ) (program : Rv32Program) (half : ℕ) → half < 2 ^ 16 → T (hint half)
-    → (word : ℕ) × (expand half ≡ Word word) × OnlyAdvances image program half word
+    → (word : ℕ) × (expand half ≡ Some word) × OnlyAdvances image program half word

@@ -1,27 +1,27 @@
 -- Control step: the lane run, which is the scalar run's text over all inputs at once, with the tests that lanes and lent space add.
-use Rattle.std.specs.Prelude.{◌&&◌, List, [], ◌∷◌, ◌++◌, ℕ, zero, suc, ◌+◌, ◌*◌, ◌%◌, leb, ltb, eqb, get_or, length}
+use Rattle.std.specs.Prelude.{◌&&◌, List, [], ◌∷◌, ◌++◌, ℕ, zero, suc, ◌+◌, ◌*◌, ◌%◌, leb, ltb, eqb, get_or, length, Err, Ok, Result}
 use Rattle.std.proofs.Math.Option.{Option, none, some}
 use Rattle.rv32_arithmetic.specs.Arithmetic.{add, target}
 use Rattle.riscv32imc.specs.Constants.{image_base}
 use Rattle.rv32_arithmetic.specs.Value.{value_of}
 use Rattle.riscv_decode.specs.declared.Fetched.{Fetched}
 use Rattle.lane_word.specs.declared.LaneWord.{LaneWord}
-use Rattle.lane_word.specs.declared.Uniform.{Uniform}
-use Rattle.lane_word.specs.declared.Uniform.TheVariants.{Value, Unknown, Uneven}
 use Rattle.lane_word.specs.Word.{unknown, constant, domain, unary, binary, uniform_of}
 use Rattle.predicate_action.specs.declared.Action.{Action}
 use Rattle.predicate_action.specs.declared.Action.TheVariants.{Nothing, Literal, Compute, ComputeImmediate, Jump, JumpTo, Branch, Load, Store}
 use Rattle.predicate_action.specs.Meaning.{extension_of, meaning}
 use Rattle.predicate_answer.specs.declared.CompiledMmioEvent.{CompiledMmioEvent}
 use Rattle.predicate_answer.specs.declared.PredicateTransducerExecution.{PredicateTransducerExecution}
-use Rattle.predicate_answer.specs.declared.CallVerdict.{CallVerdict}
 use Rattle.predicate_semantics.specs.declared.Rv32SymbolLayout.{Rv32SymbolLayout}
 use Rattle.predicate_semantics.specs.Choice.{choose}
 use Rattle.predicate_semantics.specs.Program.{Core, Program, memory_end, stop, stop_word, stack_pointer, event_stride, image_end, sized, symbols_placed}
 use Rattle.predicate_answer.specs.Blank.{max_events}
-use Rattle.predicate_semantics.specs.State.{State, Result, Effect, goes, sets, stores, Attempted, fill, at_start, apply}
+use Rattle.predicate_semantics.specs.State.{State, RunResult, Effect, goes, sets, stores, Attempted, fill, at_start, apply}
 use Rattle.predicate_semantics.specs.Memory.{Written, LaneBytes, lane_bytes, read, write}
 use Rattle.predicate_semantics.specs.Tested.{Tested, passed, refused, ◌>>=◌, if_passed, refuse, require, allow, found}
+use Rattle.lane_word.specs.declared.UniformError.TheVariants.{Unknown, Uneven}
+use Rattle.lane_word.specs.declared.UniformError.{UniformError}
+use Rattle.predicate_answer.specs.declared.CallError.{CallError}
 
 -- registers are lane words, memory the written bytes over the image and zeros
 abbrev pub LaneState : Type 0
@@ -30,20 +30,20 @@ LaneState = State LaneWord (List Written)
 -- the inputs, one for each lane, whether what the caller chose is taken, and how many whole rows and trace entries are lent
 pub record Setup : Type 0 where
   pub inputs : List ℕ
-  pub choice : CallVerdict
+  pub choice : Result (Unit {0}) CallError
   pub rows : ℕ
   pub entries : ℕ
 
 -- what a run gives: the state that it ends in, with its completed steps and their trace, and its result or its refusal
 pub record Ended : Type 0 where
   pub state : LaneState
-  pub answer : Tested Result
+  pub answer : Tested RunResult
 
 -- Lane word: the answer of a uniform test in a role, which is the value that all lanes share, 6 where it is not known, 7 where they differ
-abbrev pub agreed_as : ℕ → Uniform → Tested ℕ
-agreed_as role (Value v) = passed v
-agreed_as role Unknown = refuse 6 role
-agreed_as role Uneven = refuse 7 role
+abbrev pub agreed_as : ℕ → Result ℕ UniformError → Tested ℕ
+agreed_as role (Ok v) = passed v
+agreed_as role (Err Unknown) = refuse 6 role
+agreed_as role (Err Uneven) = refuse 7 role
 
 -- .. of a word
 unfoldable pub agreed : ℕ → LaneWord → Tested ℕ
@@ -56,7 +56,7 @@ inside a n = do
   require 5 (leb (a + n) memory_end)
 
 -- Who causes a refusal: before any step, of an image of so many bytes, 1, 2, the caller's choice, and 13 where under four rows are lent
-unfoldable pub start_tests : ℕ → Rv32SymbolLayout → CallVerdict → ℕ → Tested (Unit {0})
+unfoldable pub start_tests : ℕ → Rv32SymbolLayout → Result (Unit {0}) CallError → ℕ → Tested (Unit {0})
 start_tests size symbols choice rows = do
   _ ← require 1 (sized size)
   _ ← require 2 (symbols_placed symbols)
@@ -180,14 +180,14 @@ module _ (p : Program) (l : Setup) where
     passed (apply write p.symbols.event_count s seen.fetched seen.effect)
 
   -- at stop, with a return value and an event count: 12, then the events
-  unfoldable pub finish_events : LaneState → ℕ → ℕ → Tested Result
+  unfoldable pub finish_events : LaneState → ℕ → ℕ → Tested RunResult
   finish_events s return_value count = do
     _ ← require 12 (leb count max_events && eqb count (length s.locations))
     es ← events count_of_lanes p.symbols.events (memory_of s) 0 [] s.locations
     passed (record { return_value = return_value; steps = s.steps; trace = s.trace; events = es })
 
   -- Control step: the answer at stop; the return value is x10
-  unfoldable pub finish : LaneState → Tested Result
+  unfoldable pub finish : LaneState → Tested RunResult
   finish s = do
     return_value ← agreed 6 (reg s 10)
     count ← access_agreed count_of_lanes 7 (memory_of s) 4 p.symbols.event_count
@@ -242,7 +242,7 @@ module _ (p : Program) (l : Setup) where
   lane_operations s = count_of_lanes * s.steps
 
   -- an accepted run's numbers, as a record's first item has them
-  unfoldable pub execution : LaneState → Result → PredicateTransducerExecution
+  unfoldable pub execution : LaneState → RunResult → PredicateTransducerExecution
   execution s r = record {
     first_input = get_or l.inputs 0 0;
     lane_count = count_of_lanes;

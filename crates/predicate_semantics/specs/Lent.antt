@@ -2,7 +2,7 @@
 use Rattle.std.specs.Prelude.{◌≡◌, List, ◌++◌, ℕ, ◌≤◌, ◌<◌}
 use Rattle.predicate_trace.specs.declared.PredicateControlStep.{PredicateControlStep}
 use Rattle.predicate_semantics.specs.Program.{Program}
-use Rattle.predicate_semantics.specs.State.{Result}
+use Rattle.predicate_semantics.specs.State.{RunResult}
 use Rattle.predicate_semantics.specs.Tested.{passed, refuse}
 use Rattle.predicate_semantics.specs.Lane.{Setup, Ended, lane_run, written_bytes}
 
@@ -47,7 +47,7 @@ module _ (p : Program) (l : Setup) (limit : ℕ) where
 
   -- An accepted run needs a row for each written byte, and a trace entry for each step.
   abbrev pub RowsNeeded : Type 0
-  RowsNeeded = (r : Result) → (lane_run p l limit).answer ≡ passed r → Needs 13 (written_bytes p l (lane_run p l limit).state) (lane_run p l limit) with_rows
+  RowsNeeded = (r : RunResult) → (lane_run p l limit).answer ≡ passed r → Needs 13 (written_bytes p l (lane_run p l limit).state) (lane_run p l limit) with_rows
 
   abbrev pub EntriesNeeded : Type 0
-  EntriesNeeded = (r : Result) → (lane_run p l limit).answer ≡ passed r → Needs 14 r.steps (lane_run p l limit) with_entries
+  EntriesNeeded = (r : RunResult) → (lane_run p l limit).answer ≡ passed r → Needs 14 r.steps (lane_run p l limit) with_entries

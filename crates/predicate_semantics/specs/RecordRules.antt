@@ -1,5 +1,5 @@
 -- Record: the rules that a run's record keeps, which hold of every run.
-use Rattle.std.specs.Prelude.{◌≡◌, Bool, ◌&&◌, ◌||◌, cond, ◌⊎◌, List, [], ◌∷◌, ℕ, ◌*◌, ◌≤◌, ◌<◌, ◌^◌, T, leb, eqb, length}
+use Rattle.std.specs.Prelude.{◌≡◌, Bool, ◌&&◌, ◌||◌, cond, ◌⊎◌, List, [], ◌∷◌, ℕ, ◌*◌, ◌≤◌, ◌<◌, ◌^◌, T, leb, eqb, length, Err}
 use Rattle.std.proofs.Math.Option.{some}
 use Rattle.riscv32imc.specs.Constants.{max_memory_bytes}
 use Rattle.lane_word.specs.declared.InputRange.{InputRange}
@@ -8,9 +8,8 @@ use Rattle.predicate_trace.specs.declared.PredicateControlStep.{PredicateControl
 use Rattle.predicate_answer.specs.declared.PredicateTransducerExecution.{PredicateTransducerExecution}
 use Rattle.predicate_semantics.specs.Program.{Core, Program, stop}
 use Rattle.predicate_answer.specs.Blank.{max_events, last_refusal, last_role}
-use Rattle.predicate_semantics.specs.State.{Result}
+use Rattle.predicate_semantics.specs.State.{RunResult}
 use Rattle.predicate_semantics.specs.Tested.{passed}
-use Rattle.predicate_answer.specs.declared.CallVerdict.TheVariants as verdict
 use Rattle.predicate_answer.specs.Refusal.{RunRefusal, Refusal, of_run, of_call}
 use Rattle.predicate_semantics.specs.Lane.{LaneState, Setup}
 use Rattle.predicate_semantics.specs.Call.{Call, run_of}
@@ -43,7 +42,7 @@ pub record Completed (p : Program) (l : Setup) (limit : ℕ) (s : LaneState) : T
   pub words : ExpandsToWords p.core → Words s.trace
 
 -- of an accepted run: its result too
-pub record Accepted (l : Setup) (s : LaneState) (r : Result) : Type 0 where
+pub record Accepted (l : Setup) (s : LaneState) (r : RunResult) : Type 0 where
   pub steps : s.steps ≡ r.steps
   pub trace : s.trace ≡ r.trace
   pub arrived : s.pc ≡ stop
@@ -54,7 +53,7 @@ pub record Accepted (l : Setup) (s : LaneState) (r : Result) : Type 0 where
   pub lent : length s.memory ≤ l.rows
 
 -- an accepted run's numbers, by its range, completed steps and written bytes
-abbrev pub numbers_over : InputRange → ℕ → ℕ → Result → PredicateTransducerExecution
+abbrev pub numbers_over : InputRange → ℕ → ℕ → RunResult → PredicateTransducerExecution
 numbers_over range steps written r = record {
   first_input = range.first;
   lane_count = input_count range;
@@ -68,7 +67,7 @@ numbers_over range steps written r = record {
 -- a run is accepted with no step only over one input: where entry is stop, inputs that differ refuse the run
 abbrev pub TakesStep : Type 0
 TakesStep =
-    (c : Call) (r : Result) → (run_of c).answer ≡ passed r → (1 ≤ r.steps) ⊎ (input_count c.range ≡ 1)
+    (c : Call) (r : RunResult) → (run_of c).answer ≡ passed r → (1 ≤ r.steps) ⊎ (input_count c.range ≡ 1)
 
 -- the refusals that a record can hold: a role goes with 6 and 7 alone
 unfoldable pub proper : RunRefusal → Bool
@@ -79,4 +78,4 @@ proper r =
 -- a refusal of the run is one of these, and one of the call is for what its caller chose
 abbrev pub ProperRefusal : Setup → Refusal → Type 0
 ProperRefusal l (of_run q) = T (proper q)
-ProperRefusal l (of_call e) = l.choice ≡ verdict.Refused e
+ProperRefusal l (of_call e) = l.choice ≡ Err e

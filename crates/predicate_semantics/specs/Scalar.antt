@@ -14,7 +14,7 @@ use Rattle.predicate_semantics.specs.declared.Rv32SymbolLayout.{Rv32SymbolLayout
 use Rattle.predicate_semantics.specs.Choice.{choose}
 use Rattle.predicate_semantics.specs.Program.{Program, memory_end, stop, stop_word, stack_pointer, event_stride, initial, image_end, sized, symbols_placed}
 use Rattle.predicate_answer.specs.Blank.{max_events}
-use Rattle.predicate_semantics.specs.State.{State, Result, Effect, goes, sets, stores, Attempted, fill, at_start, apply}
+use Rattle.predicate_semantics.specs.State.{State, RunResult, Effect, goes, sets, stores, Attempted, fill, at_start, apply}
 
 -- a byte for each address
 abbrev pub Bytes : Type 0
@@ -150,7 +150,7 @@ module _ (p : Program) where
     some (apply write p.symbols.event_count s seen.fetched seen.effect)
 
   -- the answer at stop: the word at the event count's address is the number of recorded events; else 12
-  unfoldable pub finish : ScalarState → Option Result
+  unfoldable pub finish : ScalarState → Option RunResult
   finish s = do
     count ← access s.memory 4 p.symbols.event_count
     _ ← require (leb count max_events && eqb count (length s.locations))
@@ -158,7 +158,7 @@ module _ (p : Program) where
     some (record { return_value = reg s 10; steps = s.steps; trace = s.trace; events = es })
 
   -- at most so many steps, up to the first arrival at stop; else 3
-  unfoldable pub run : ℕ → ScalarState → Option Result
+  unfoldable pub run : ℕ → ScalarState → Option RunResult
   run zero s = choose (eqb s.pc stop) (λ _. finish s) (λ _. none)
   run (suc n) s = choose (eqb s.pc stop) (λ _. finish s) (λ _. step s >>= λ t. run n t)
 
@@ -181,7 +181,7 @@ module _ (p : Program) where
     })
 
   -- the run, with a limit of steps, an input, and values for the registers that are not set
-  unfoldable pub scalar_run : ℕ → ℕ → (ℕ → ℕ) → Option Result
+  unfoldable pub scalar_run : ℕ → ℕ → (ℕ → ℕ) → Option RunResult
   scalar_run limit input others = start input others >>= λ s. run limit s
 
   -- the state that it is in after n steps

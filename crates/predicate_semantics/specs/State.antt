@@ -18,14 +18,14 @@ pub record State (W M : Type 0) : Type 0 where
   pub locations : List ℕ
 
 -- what a run that reaches stop answers: x10, the steps, the trace, and the events in their order, each with its location
-pub record Result : Type 0 where
+pub record RunResult : Type 0 where
   pub return_value : ℕ
   pub steps : ℕ
   pub trace : List PredicateControlStep
   pub events : List CompiledMmioEvent
 
 -- Record: the result that an accepted outcome and the trace beside it say
-abbrev pub result_read : RecordOutcome → List ℕ → Result
+abbrev pub result_read : RecordOutcome → List ℕ → RunResult
 result_read o t = record {
   return_value = o.execution.return_value;
   steps = o.execution.symbolic_transitions;

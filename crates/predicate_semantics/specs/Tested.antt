@@ -1,9 +1,8 @@
 -- What a part of the lane run gives: a value, or the refusal that ends the run.
-use Rattle.std.specs.Prelude.{Bool, true, false, ℕ}
+use Rattle.std.specs.Prelude.{Bool, true, false, ℕ, Err, Ok, Result}
 use Rattle.std.proofs.Math.Option.{Option, none, some}
-use Rattle.predicate_answer.specs.declared.CallVerdict.{CallVerdict}
-use Rattle.predicate_answer.specs.declared.CallVerdict.TheVariants as verdict
 use Rattle.predicate_answer.specs.Refusal.{Refusal, of_run, of_call}
+use Rattle.predicate_answer.specs.declared.CallError.{CallError}
 
 -- a value that passed its tests, or a refusal
 pub data Tested (A : Type 0) : Type 0 where
@@ -31,9 +30,9 @@ require number true = passed tt
 require number false = refuse number 0
 
 -- what the caller chose, and the call's refusal if it is not taken
-unfoldable pub allow : CallVerdict → Tested (Unit {0})
-allow verdict.Passed = passed tt
-allow (verdict.Refused e) = refused (of_call e)
+unfoldable pub allow : Result (Unit {0}) CallError → Tested (Unit {0})
+allow (Ok tt) = passed tt
+allow (Err e) = refused (of_call e)
 
 -- a value, and the refusal if there is none
 unfoldable pub found : {A : Type 0} → ℕ → Option A → Tested A

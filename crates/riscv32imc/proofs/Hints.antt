@@ -1,4 +1,5 @@
 -- Hints: how many there are and what they expand to, by computed counts over all halfwords. Assumes nothing.
+use Rattle.std.specs.Prelude.{None, Option, Some, ℕ}
 use mathlib.Core.Bool.{Bool, true, false, not, ◌&&◌, true≢false}
 use mathlib.Core.Path.{◌≡◌, refl}
 use Prim.Native.Nat.{ℕ}
@@ -6,17 +7,15 @@ use lib.Dec.{T}
 use Rattle.rv32_arithmetic.specs.Bits.{sign_extend}
 use Rattle.riscv32imc.specs.Expansion.{place, cLui, quadrant1, cSlli, cRegisters, quadrant2, expand}
 use Rattle.riscv32imc.specs.Hints.{hint, how_many, HintsCounted, writes_x0, HintsExpand}
-use Rattle.riscv32imc.specs.declared.compressed.Expanded.{Expanded}
-use Rattle.riscv32imc.specs.declared.compressed.Expanded.TheVariants.{Word, Refused}
 use Rattle.riscv32imc.proofs.Halfwords.{no_halfword}
 
 pub hints_counted : HintsCounted
 unfolding place how_many hint
 hints_counted = (refl, refl, refl, refl, refl, refl)
 
-abbrev expands_into_x0 : Expanded → Bool
-expands_into_x0 (Word w) = writes_x0 w
-expands_into_x0 Refused = false
+abbrev expands_into_x0 : Option ℕ → Bool
+expands_into_x0 (Some w) = writes_x0 w
+expands_into_x0 None = false
 
 -- a hint that does not expand to a word that writes x0
 strays : ℕ → Bool
@@ -30,9 +29,9 @@ T_of : (b : Bool) → not b ≡ false → T b
 T_of true e = tt
 T_of false e = absurd (true≢false e)
 
-word_of : (b : Bool) (x : Expanded) → T b → b && not (expands_into_x0 x) ≡ false → (w : ℕ) × (x ≡ Word w) × T (writes_x0 w)
-word_of true (Word w) t e = (w, refl, T_of (writes_x0 w) e)
-word_of true Refused t e = absurd (true≢false e)
+word_of : (b : Bool) (x : Option ℕ) → T b → b && not (expands_into_x0 x) ≡ false → (w : ℕ) × (x ≡ Some w) × T (writes_x0 w)
+word_of true (Some w) t e = (w, refl, T_of (writes_x0 w) e)
+word_of true None t e = absurd (true≢false e)
 word_of false x t e = absurd t
 
 pub hints_expand : HintsExpand

@@ -1,4 +1,4 @@
--- Memory and its limits (document 01, Written byte and Who causes a refusal).
+-- Memory and its limits.
 use Rattle.std.specs.Prelude.{ℕ}
 
 -- Written byte: the first address of memory, and of the image

@@ -1,8 +1,7 @@
 -- What is claimed of hints: the halfwords of C.LI, C.LUI, C.SLLI, C.MV and C.ADD with rd 0 (the C extension's "HINT Instructions"), of every one of them.
-use Rattle.std.specs.Prelude.{Bool, cond, ◌&&◌, ◌||◌, not, ◌≡◌, ℕ, zero, suc, ◌+◌, ◌^◌, ◌<◌, T, eqb}
+use Rattle.std.specs.Prelude.{Bool, cond, ◌&&◌, ◌||◌, not, ◌≡◌, ℕ, zero, suc, ◌+◌, ◌^◌, ◌<◌, T, eqb, Some}
 use Rattle.rv32_arithmetic.specs.Bits.{slice}
 use Rattle.riscv32imc.specs.Expansion.{quadrant, funct3, rd, rs2, lui_imm, expand}
-use Rattle.riscv32imc.specs.declared.compressed.Expanded.TheVariants.{Word}
 
 -- C.LI
 abbrev pub is_li : ℕ → Bool
@@ -58,4 +57,4 @@ writes_x0 w =
 
 -- each hint expands to such a word
 abbrev pub HintsExpand : Type 0
-HintsExpand = (h : ℕ) → h < 2 ^ 16 → T (hint h) → (w : ℕ) × (expand h ≡ Word w) × T (writes_x0 w)
+HintsExpand = (h : ℕ) → h < 2 ^ 16 → T (hint h) → (w : ℕ) × (expand h ≡ Some w) × T (writes_x0 w)

@@ -4,7 +4,7 @@
 mod compressed;
 mod encode;
 
-pub use compressed::{Expanded, decompress};
+pub use compressed::decompress;
 
 // The image's and the memory's first address.
 pub const RV32_IMAGE_BASE: u32 = 0x8000_0000;

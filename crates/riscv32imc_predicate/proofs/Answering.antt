@@ -1,4 +1,6 @@
--- The run over a range as one use of the run over a setting, and its whole outcome: the result read off the code's own outputs, and demand 3 over it. Assumes nothing.
+-- The run over a range as one use of the run over a setting, and its whole outcome: the result read off the code's own outputs, and the promise over it. Assumes nothing.
+use Rattle.std.specs.Prelude.{Err, Ok, Result}
+use Rattle.std.specs.Result.{result_and}
 use mathlib.Core.Path.{◌≡◌, refl, sym, ap, ◌∙◌, subst}
 use mathlib.Core.List.{List, []}
 use mathlib.Core.Option.{some}
@@ -12,17 +14,15 @@ use Rattle.lane_word.specs.Word.{lanes}
 use Rattle.lane_word.proofs.SpareLaws.{length_lanes}
 use Rattle.predicate_answer.specs.declared.PredicateTransducerExecution.{PredicateTransducerExecution}
 use Rattle.predicate_trace.specs.declared.PredicateControlStep.{PredicateControlStep}
-use Rattle.predicate_answer.specs.declared.RecordAnswer.{RecordAnswer}
-use Rattle.predicate_answer.specs.declared.RecordAnswer.TheVariants as recorded
 use Rattle.predicate_answer.specs.Refusal.{of_run, of_call}
 use Rattle.predicate_answer.specs.Outcome.{accepted_outcome}
 use Rattle.predicate_semantics.specs.declared.Rv32Program.{Rv32Program}
-use Rattle.predicate_semantics.specs.State.{Result, result_read}
+use Rattle.predicate_semantics.specs.State.{RunResult, result_read}
 use Rattle.predicate_semantics.specs.Tested.{Tested, passed, refused}
 use Rattle.predicate_semantics.specs.Lane.{LaneState, Ended}
 use Rattle.predicate_semantics.specs.Standing.{standing_core, program_of, scalar_answer}
 use Rattle.predicate_semantics.specs.Call.{Call, program_in, setup_of, run_of}
-use Rattle.predicate_semantics.specs.Outcome.{outcome_in, outcome_of}
+use Rattle.predicate_semantics.specs.Outcome.{verdict_in, verdict_on, outcome_in, outcome_of}
 use Rattle.predicate_semantics.proofs.Guarantee.{guarantee}
 use Rattle.predicate_semantics.proofs.RecordRules as Rules
 use Rattle.predicate_semantics.proofs.Repeated.{SameRun}
@@ -34,11 +34,13 @@ use Rattle.predicate_trace.proofs.TraceLaws.{entries_over}
 use Rattle.lane_memory.specs.Rows.{row_count, cleared, unmarked}
 use Rattle.lane_memory.specs.Holds.{Holds}
 use Rattle.lane_memory.proofs.Laws.{unmarked_holds, cleared_unmarked}
-use Rattle.riscv32imc_predicate.specs.declared.PredicateRun.{PredicateRun}
+use Rattle.predicate_answer.specs.declared.CallError.{CallError}
+use Rattle.predicate_answer.specs.declared.RecordOutcome.{RecordOutcome}
 use Rattle.riscv32imc_predicate.specs.Setting.{Setting}
 use Rattle.riscv32imc_predicate.specs.Outcome.{trace_after, call_over, Ran}
-use Rattle.riscv32imc_predicate.specs.Reporting.{outcome_over, reported, whole, Calls, Reports}
+use Rattle.riscv32imc_predicate.specs.Reporting.{reported, whole, Calls, Reports}
 use Rattle.riscv32imc_predicate.proofs.Coming.{own_in_force}
+use Rattle.predicate_answer.specs.declared.RecordRefusal.{RecordRefusal}
 
 -- rows without a mark hold nothing
 pub holds_none : (rows rows₁ : List ℕ) → rows₁ ≡ unmarked rows → Holds rows₁ (row_count rows₁) []
@@ -46,15 +48,15 @@ holds_none rows rows₁ c = rw c (subst (λ (k : ℕ). Holds (unmarked rows) k [
 
 -- states alike in steps and written bytes give the same answer
 reported_alike : (range : InputRange) (s t : LaneState) → s.steps ≡ t.steps → length s.memory ≡ length t.memory
-    → (a : Tested Result) → reported range s a ≡ reported range t a
+    → (a : Tested RunResult) → reported range s a ≡ reported range t a
 reported_alike range s t e f (passed r) = rw (e, f)
 reported_alike range s t e f (refused (of_run q)) = rw e
 reported_alike range s t e f (refused (of_call x)) = refl
 
 -- a refusal is not accepted
-abbrev IsAccepted : RecordAnswer → Type 0
-IsAccepted recorded.Accepted = Unit {0}
-IsAccepted (recorded.Refused f) = ⊥
+abbrev IsAccepted : Result (Unit {0}) RecordRefusal → Type 0
+IsAccepted (Ok tt) = Unit {0}
+IsAccepted (Err f) = ⊥
 
 module _ (image : List ℕ) (program : Rv32Program) (range : InputRange) (rows trace : List ℕ) where
   abbrev c : Call
@@ -96,16 +98,16 @@ module _ (image : List ℕ) (program : Rv32Program) (range : InputRange) (rows t
   trace_over = let d = call_completed c in entries_over trace e.state.trace (omega (arith, d.counted, d.lent))
 
   -- the numbers by the range are those of the lanes
-  same_outcome : (t : Tested Result) → e.answer ≡ t → outcome_over range e.state t ≡ outcome_in c e.state t
+  same_answer : (t : Tested RunResult) → e.answer ≡ t → reported range e.state t ≡ result_and (verdict_in t) (Ok (outcome_in c e.state t))
   unfolding run_of setup_of
-  same_outcome (passed r) q =
-      ap (λ (x : PredicateTransducerExecution). accepted_outcome x r.events)
+  same_answer (passed r) q =
+      ap (λ (x : PredicateTransducerExecution). Ok (accepted_outcome x r.events))
       (sym (Rules.execution_over c e.state r (Rules.ordered range (Rules.chosen (program_in c) (setup_of c) max_steps r q))))
-  same_outcome (refused (of_run q)) h = refl
-  same_outcome (refused (of_call x)) h = refl
+  same_answer (refused (of_run q)) h = refl
+  same_answer (refused (of_call x)) h = refl
 
-  -- demand 3, where the outcome is accepted
-  promised : (t : Tested Result) → e.answer ≡ t → (outcome_in c e.state t).answer ≡ recorded.Accepted
+  -- where the outcome is accepted, each input's scalar run answers it
+  promised : (t : Tested RunResult) → e.answer ≡ t → (outcome_in c e.state t).answer ≡ Ok tt
       → (input : ℕ) → range.first ≤ input → input ≤ range.last
       → (others : ℕ → ℕ) → scalar_answer image program input others ≡ some (result_read (outcome_in c e.state t) (trace_after c trace))
   promised (passed r) q a input low high others =
@@ -113,28 +115,32 @@ module _ (image : List ℕ) (program : Rv32Program) (range : InputRange) (rows t
   promised (refused (of_run x)) q a input low high others = absurd (subst IsAccepted (sym a) tt)
   promised (refused (of_call x)) q a input low high others = absurd (subst IsAccepted (sym a) tt)
 
-  module _ {r : PredicateRun} {rows₁ rows₂ trace' : List ℕ} (u : rows₁ ≡ unmarked rows) (s : Reports setting range r rows₁ rows₂ trace') where
+  -- .. of an outcome that the run answers
+  promised_of : (outcome : RecordOutcome) (t : Tested RunResult) → e.answer ≡ t → result_and (verdict_in t) (Ok (outcome_in c e.state t)) ≡ Ok outcome → outcome.answer ≡ Ok tt
+      → (input : ℕ) → range.first ≤ input → input ≤ range.last
+      → (others : ℕ → ℕ) → scalar_answer image program input others ≡ some (result_read outcome (trace_after c trace))
+  promised_of outcome (passed r) q h = let z : outcome_in c e.state (passed r) ≡ outcome = cc in rw (← z) (promised (passed r) q)
+  promised_of outcome (refused (of_run x)) q h = let z : outcome_in c e.state (refused (of_run x)) ≡ outcome = cc in rw (← z) (promised (refused (of_run x)) q)
+  promised_of outcome (refused (of_call x)) q h = absurd (cc)
+
+  module _ {r : Result RecordOutcome CallError} {rows₁ rows₂ trace' : List ℕ} (u : rows₁ ≡ unmarked rows) (s : Reports setting range r rows₁ rows₂ trace') where
     -- lanes that repeat another's are not seen
     same_run : SameRun e (whole setting)
     unfolding run_of
     same_run = spare_run (program_in c) c max_steps
 
-    reports : r ≡ reported range e.state e.answer
-    reports =
+    answer : r ≡ result_and (verdict_on c) (Ok (outcome_of c))
+    answer =
         s.said ∙ reported_alike range (whole setting).state e.state (sym same_run.steps) (sym same_run.written) (whole setting).answer
-        ∙ ap (reported range e.state) (sym same_run.answer)
-
-    outcome : r.outcome ≡ outcome_of c
-    outcome = ap (λ (x : PredicateRun). x.outcome) reports ∙ same_outcome e.answer refl
+        ∙ ap (reported range e.state) (sym same_run.answer) ∙ same_answer e.answer refl
 
     entries : trace' ≡ trace_after c trace
     entries = s.entries ∙ ap (put_entries trace 0) (sym same_run.trace) ∙ trace_over
 
     pub ran : {rows₃ : List ℕ} → rows₃ ≡ cleared rows₂ → Ran image program range rows trace r rows₃ trace'
     ran z = record {
-      verdict = ap (λ (x : PredicateRun). x.verdict) reports;
-      outcome = outcome;
+      answer = answer;
       entries = entries;
       zero = z ∙ s.same_rows ∙ ap cleared u ∙ cleared_unmarked rows;
-      guarantee = rw (outcome, entries) (promised e.answer refl);
+      guarantee = λ outcome h. rw entries (promised_of outcome e.answer refl (sym answer ∙ h));
     }

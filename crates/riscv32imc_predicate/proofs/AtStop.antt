@@ -1,6 +1,7 @@
 -- At stop: the numbers that the code reads one after another make the semantics' answer. Assumes nothing.
+use Rattle.std.specs.Prelude.{Ok}
 use mathlib.Core.List.{List, [], ◌∷◌, ◌++◌}
-use mathlib.Core.Path.{◌≡◌, refl, sym, ap, ◌∙◌}
+use mathlib.Core.Path.{◌≡◌, sym, ap, ◌∙◌}
 use Prim.Native.Nat.{ℕ, suc, ◌+◌, ◌*◌, ◌≤◌, ◌<◌}
 use native.Mathlib.Numerals.{add-one}
 use native.Mathlib.Omega.{arith}
@@ -14,12 +15,11 @@ use Rattle.predicate_answer.specs.declared.CompiledMmioEvent.{CompiledMmioEvent}
 use Rattle.predicate_semantics.specs.declared.Rv32SymbolLayout.{Rv32SymbolLayout}
 use Rattle.predicate_answer.specs.Blank.{no_event, no_events, max_events}
 use Rattle.predicate_semantics.specs.Program.{event_stride}
-use Rattle.predicate_semantics.specs.State.{Result}
+use Rattle.predicate_semantics.specs.State.{RunResult}
 use Rattle.predicate_semantics.specs.Tested.{Tested, passed, refused, ◌>>=◌, refuse, require}
 use Rattle.predicate_answer.specs.Refusal.{Refusal, refusal_of}
 use Rattle.predicate_semantics.specs.Lane.{LaneState, reg, agreed, access_agreed, event_at, events, finish_events, finish}
 use Rattle.predicate_answer.specs.declared.Rv32Error.TheVariants as error
-use Rattle.lane_access.specs.declared.Verdict.TheVariants as verdict
 use Rattle.lane_access.specs.Seen.{seen}
 use Rattle.riscv32imc_predicate.specs.declared.Recorded.{Recorded}
 use Rattle.riscv32imc_predicate.specs.Setting.{Setting}
@@ -40,10 +40,6 @@ pub record Filling (image rows : List ℕ) (from count : ℕ) (locations : List 
   pub counted : length done ≡ i
   pub filled : es ≡ over done no_events
   pub rest : events_seen image rows from 0 [] (take count locations) ≡ events_seen image rows from i done (drop i (take count locations))
-
-pub filling_start : (image rows : List ℕ) (from count : ℕ) (locations : List ℕ) {es : List CompiledMmioEvent}
-    → count ≤ max_events → length locations ≡ max_events → es ≡ no_events → Filling image rows from count locations es 0
-filling_start image rows from count locations h k e = record { room = h; enough = k; done = []; counted = refl; filled = e; rest = refl }
 
 module _ {image rows : List ℕ} {from count : ℕ} {locations : List ℕ} {es : List CompiledMmioEvent} {i : ℕ} (f : Filling image rows from count locations es i) where
   -- the next event
@@ -80,66 +76,66 @@ module _ {image rows : List ℕ} {from count : ℕ} {locations : List ℕ} {es :
           rest = next ∙ ap after (sym q);
         })
 
-  pub filling_exit : count ≤ i → Finds verdict.Passed es (events_seen image rows from 0 [] (take count locations))
+  pub filling_exit : count ≤ i → Finds (Ok es) (events_seen image rows from 0 [] (take count locations))
   unfolding events
   filling_exit h =
       let none : length (take count locations) ≤ i = rw (length-take count locations) (omega arith) in
       (f.done, f.rest ∙ ap (events_seen image rows from i f.done) (drop_of_length-le (take count locations) none), f.filled)
 
 module _ {image : List ℕ} {symbols : Rv32SymbolLayout} {rows : List ℕ} {kept : Recorded} {c : Setting} {s : LaneState}
-    (g : StandsAt image symbols rows kept c s) where
-  -- ---- return value and count are known
-  module _ (value count : ℕ) where
-    pub many_events : max_events < count → finish_events c.program c.setup s value count ≡ refused (refusal_of error.EventCount)
-    unfolding finish_events require refuse ◌>>=◌
-    many_events h = rw (lt-leb count max_events h)
+    (g : StandsAt image symbols rows kept c s) {x10 : LaneWord} (x : reg c.program c.setup s 10 ≡ x10) where
+  -- ---- the two numbers
+  abbrev counted : Tested ℕ
+  counted = access_agreed lanes 7 (seen image rows) 4 symbols.event_count
 
-    module _ (h : count ≤ max_events) where
-      pub other_count : (count ≡ kept.count → ⊥) → finish_events c.program c.setup s value count ≡ refused (refusal_of error.EventCount)
-      unfolding finish_events require refuse ◌>>=◌
-      other_count n = rw (le-leb count max_events h, ne_eqb count (length s.locations) (λ e. n (e ∙ sym g.keeps.0)))
+  numbers : finish c.program c.setup s ≡ (agreed 6 x10 >>= λ value. counted >>= λ count. finish_events c.program c.setup s value count)
+  unfolding finish
+  numbers = rw (x, g.same_bytes, lane_count c g.same_lanes, g.same_symbols)
 
-      -- the kept locations are all of them
-      module _ (e : count ≡ kept.count) where
-        abbrev answered : Tested (List CompiledMmioEvent) → Tested Result
-        answered t = t >>= λ es. passed (record { return_value = value; steps = s.steps; trace = s.trace; events = es })
+  pub return_refused : (q : Refusal) → refused q ≡ agreed 6 x10 → finish c.program c.setup s ≡ refused q
+  unfolding ◌>>=◌
+  return_refused q e = numbers ∙ rw (← e)
 
-        all_kept : take count kept.locations ≡ s.locations
-        all_kept = rw (e ∙ g.keeps.0) (g.keeps.1 ∙ take_all max_events s.locations (omega (arith, h, e, g.keeps.0)))
-
-        as_found : finish_events c.program c.setup s value count ≡ answered (events_seen image rows symbols.events 0 [] (take count kept.locations))
-        unfolding finish_events require ◌>>=◌
-        as_found =
-            rw (le-leb count max_events h, eq-eqb count (length s.locations) (e ∙ g.keeps.0), all_kept, g.same_bytes, lane_count c g.same_lanes, g.same_symbols)
-
-        pub events_refused : (q : Refusal) → events_seen image rows symbols.events 0 [] (take count kept.locations) ≡ refused q
-            → finish_events c.program c.setup s value count ≡ refused q
-        unfolding ◌>>=◌
-        events_refused q t = as_found ∙ ap answered t
-
-        pub events_found : (es : List CompiledMmioEvent) → Finds verdict.Passed es (events_seen image rows symbols.events 0 [] (take count kept.locations))
-            → Answers verdict.Passed value es s (finish_events c.program c.setup s value count)
-        unfolding ◌>>=◌
-        events_found es t = (t.0, as_found ∙ ap answered t.1, t.2)
-
-  -- ---- the two numbers before
-  module _ {x10 : LaneWord} (x : reg c.program c.setup s 10 ≡ x10) where
-    abbrev counted : Tested ℕ
-    counted = access_agreed lanes 7 (seen image rows) 4 symbols.event_count
-
-    numbers : finish c.program c.setup s ≡ (agreed 6 x10 >>= λ value. counted >>= λ count. finish_events c.program c.setup s value count)
-    unfolding finish
-    numbers = rw (x, g.same_bytes, lane_count c g.same_lanes, g.same_symbols)
-
-    pub return_refused : (q : Refusal) → agreed 6 x10 ≡ refused q → finish c.program c.setup s ≡ refused q
+  module _ (value : ℕ) (e : passed value ≡ agreed 6 x10) where
+    pub count_refused : (q : Refusal) → refused q ≡ counted → finish c.program c.setup s ≡ refused q
     unfolding ◌>>=◌
-    return_refused q e = numbers ∙ rw e
+    count_refused q f = numbers ∙ rw (← e, ← f)
 
-    module _ (value : ℕ) (e : agreed 6 x10 ≡ passed value) where
-      pub count_refused : (q : Refusal) → counted ≡ refused q → finish c.program c.setup s ≡ refused q
+    -- ---- return value and count are known
+    module _ (count : ℕ) (f : passed count ≡ counted) where
+      both_known : finish c.program c.setup s ≡ finish_events c.program c.setup s value count
       unfolding ◌>>=◌
-      count_refused q f = numbers ∙ rw (e, f)
+      both_known = numbers ∙ rw (← e, ← f)
 
-      pub both_known : (count : ℕ) → counted ≡ passed count → finish c.program c.setup s ≡ finish_events c.program c.setup s value count
-      unfolding ◌>>=◌
-      both_known count f = numbers ∙ rw (e, f)
+      pub many_events : max_events < count → finish c.program c.setup s ≡ refused (refusal_of error.EventCount)
+      unfolding finish_events require refuse ◌>>=◌
+      many_events h = both_known ∙ rw (lt-leb count max_events h)
+
+      module _ (h : count ≤ max_events) where
+        pub other_count : (count ≡ kept.count → ⊥) → finish c.program c.setup s ≡ refused (refusal_of error.EventCount)
+        unfolding finish_events require refuse ◌>>=◌
+        other_count n = both_known ∙ rw (le-leb count max_events h, ne_eqb count (length s.locations) (λ q. n (q ∙ sym g.keeps.0)))
+
+        -- the kept locations are all of them
+        module _ (same : count ≡ kept.count) where
+          abbrev answered : Tested (List CompiledMmioEvent) → Tested RunResult
+          answered t = t >>= λ es. passed (record { return_value = value; steps = s.steps; trace = s.trace; events = es })
+
+          all_kept : take count kept.locations ≡ s.locations
+          all_kept = rw (same ∙ g.keeps.0) (g.keeps.1 ∙ take_all max_events s.locations (omega (arith, h, same, g.keeps.0)))
+
+          as_found : finish c.program c.setup s ≡ answered (events_seen image rows symbols.events 0 [] (take count kept.locations))
+          unfolding finish_events require ◌>>=◌
+          as_found =
+              both_known
+              ∙ rw (le-leb count max_events h, eq-eqb count (length s.locations) (same ∙ g.keeps.0), all_kept, g.same_bytes, lane_count c g.same_lanes, g.same_symbols)
+
+          pub events_refused : (q : Refusal) → events_seen image rows symbols.events 0 [] (take count kept.locations) ≡ refused q
+              → finish c.program c.setup s ≡ refused q
+          unfolding ◌>>=◌
+          events_refused q t = as_found ∙ ap answered t
+
+          pub events_found : (es : List CompiledMmioEvent) → Finds (Ok es) (events_seen image rows symbols.events 0 [] (take count kept.locations))
+              → Answers (Ok (record { return_value = value; events = es })) s (finish c.program c.setup s)
+          unfolding ◌>>=◌
+          events_found es t = (t.0, as_found ∙ ap answered t.1, t.2)

@@ -1,11 +1,12 @@
 -- What comes at a place: stop, the pause, the limit, a refused fetch, or a fetched instruction. Assumes nothing.
-use mathlib.Core.Path.{◌≡◌, refl, sym, ap, ◌∙◌, subst}
-use mathlib.Core.Bool.{Bool, true, false}
+use Rattle.std.specs.Prelude.{Err, Ok}
+use mathlib.Core.Path.{◌≡◌, refl, sym, ap, ◌∙◌}
+use mathlib.Core.Bool.{false}
 use mathlib.Core.List.{List}
 use Prim.Native.Nat.{ℕ, suc, ◌-◌, ◌≤◌, ◌<◌}
 use native.Mathlib.Omega.{arith}
 use lib.Dec.{eqb}
-use borrow.Author.Tests.{eq-eqb, ne_eqb}
+use borrow.Author.Tests.{ne_eqb}
 use Rattle.riscv_decode.specs.declared.Fetched.{Fetched}
 use Rattle.lane_word.specs.Word.{lanes}
 use Rattle.predicate_semantics.specs.declared.Rv32SymbolLayout.{Rv32SymbolLayout}
@@ -28,12 +29,8 @@ use Rattle.riscv32imc_predicate.specs.declared.Ending.{Ending}
 use Rattle.riscv32imc_predicate.specs.declared.Ending.TheVariants as ending
 use Rattle.riscv32imc_predicate.specs.declared.Progress.{Progress}
 use Rattle.riscv32imc_predicate.specs.Setting.{Setting, core_in_force, environment, Serves, register_count}
-use Rattle.riscv32imc_predicate.specs.Coming.{ended_by, Ends, IsAt, Readied}
+use Rattle.riscv32imc_predicate.specs.Coming.{Ends, IsAt, Readied}
 use Rattle.riscv32imc_predicate.proofs.LaneCount.{lane_count}
-
-abbrev Off : Bool → Type 0
-Off true = ⊥
-Off false = Unit {0}
 
 -- what is fetched at a pc by every core that is in force there
 abbrev Fetches : List ℕ → List ℕ → ℕ → Tested Fetched → Type 0
@@ -51,7 +48,6 @@ fetched_reads image rows pc {f} h =
 
 -- a fetched instruction, as the code has it
 pub record Has (f : Fetched) (pc : ℕ) (r : Progress) : Type 0 where
-  pub more : r.more ≡ true
   pub same_word : r.word ≡ f.word
   pub same_length : r.length ≡ f.length
   pub same_action : r.action ≡ meaning f.operation pc
@@ -63,42 +59,34 @@ module _ (image rows : List ℕ) (bounds : Bounds) (place : Place) where
   EndsBy q = (c : Setting) (symbols : Rv32SymbolLayout) → Serves c (environment image symbols bounds) → (s : LaneState) → IsAt c image rows place s → Ends c bounds.pause q s
 
   -- without an instruction
-  ends : (q : Ending) {r : Progress} → r ≡ ended_by q → EndsBy q → Readied image rows bounds place r
-  ends q e h =
-      subst (Readied image rows bounds place) (sym e)
-      (record { comes = h; below = λ m. absurd (subst Off m tt); reads = (omega arith, omega arith) })
-
-  pub comes_stop : {r : Progress} → r ≡ ended_by ending.Arrived → place.pc ≡ stop → Readied image rows bounds place r
-  comes_stop e h = ends ending.Arrived e (λ c symbols v s a. eq-eqb _ _ (sym a.at_pc ∙ h))
+  ends : (q : Ending) → EndsBy q → Readied image rows bounds place (Err q)
+  ends q h = record { comes = h; below = tt; reads = tt }
 
   module _ (moving : place.pc ≡ stop → ⊥) where
     off_stop : (s : LaneState) → place.pc ≡ s.pc → eqb s.pc stop ≡ false
     off_stop s a = ne_eqb _ _ (λ q. moving (a ∙ q))
 
-    pub comes_pause : {r : Progress} → r ≡ ended_by ending.Paused → place.steps ≡ bounds.pause → Readied image rows bounds place r
-    comes_pause e h = ends ending.Paused e (λ c symbols v s a. (off_stop s a.at_pc, sym a.at_steps ∙ h))
-
-    pub comes_limit : {r : Progress} → r ≡ ended_by (ending.Refused error.StepLimit) → bounds.limit ≤ place.steps → Readied image rows bounds place r
+    pub comes_limit : bounds.limit ≤ place.steps → Readied image rows bounds place (Err (ending.Refused error.StepLimit))
     unfolding refuse
-    comes_limit e h =
-        ends (ending.Refused error.StepLimit) e (λ c symbols v s a.
+    comes_limit h =
+        ends (ending.Refused error.StepLimit) (λ c symbols v s a.
         let none : c.limit - s.steps ≡ 0 = omega (arith, a.at_steps, v.same_limit, h) in
         rw none (run_out c.program c.setup s (off_stop s a.at_pc)))
 
     module _ (short : place.steps < bounds.limit) where
-      pub comes_refused : {r : Progress} {x : Rv32Error} → r ≡ ended_by (ending.Refused x) → Fetches image rows place.pc (refused (refusal_of x)) → Readied image rows bounds place r
+      pub comes_refused : {x : Rv32Error} → Fetches image rows place.pc (refused (refusal_of x)) → Readied image rows bounds place (Err (ending.Refused x))
       unfolding step attempt ◌>>=◌
-      comes_refused {r} {x} e f =
-          ends (ending.Refused x) e (λ c symbols v s a.
+      comes_refused {x} f =
+          ends (ending.Refused x) (λ c symbols v s a.
           let fuel : c.limit - s.steps ≡ suc (c.limit - suc s.steps) = omega (arith, a.at_steps, v.same_limit, short) in
           let q : fetch (count_of_lanes c.program c.setup) c.program.core (memory_of c.program c.setup s) s.steps s.pc ≡ refused (refusal_of x)
           = rw (a.shown, ← a.at_pc, lane_count c v.same_lanes) (sym (f c.program.core s.steps (v.in_force s.steps))) in
           let t : step c.program c.setup s ≡ refused (refusal_of x) = rw q in
           rw fuel (run_refused c.program c.setup (c.limit - suc s.steps) s (refusal_of x) (off_stop s a.at_pc) t))
 
-      pub comes_next : {r : Progress} (f : Fetched) → Fetches image rows place.pc (passed f) → Has f place.pc r → Readied image rows bounds place r
+      pub comes_next : {r : Progress} (f : Fetched) → Fetches image rows place.pc (passed f) → Has f place.pc r → Readied image rows bounds place (Ok r)
       comes_next {r} f q h = record {
-        comes = λ c symbols v s a. rw h.more (record {
+        comes = λ c symbols v s a. record {
           moving = off_stop s a.at_pc;
           below = omega (arith, a.at_steps, v.same_limit, short);
           instruction = f;
@@ -107,7 +95,7 @@ module _ (image rows : List ℕ) (bounds : Bounds) (place : Place) where
           same_length = h.same_length;
           same_action = h.same_action ∙ ap (meaning f.operation) a.at_pc;
           reads = h.reads;
-        });
-        below = λ _. short;
+        };
+        below = short;
         reads = rw (h.reads, h.same_action) (fetched_reads image rows place.pc q);
       }

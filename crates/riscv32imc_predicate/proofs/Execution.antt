@@ -1,4 +1,5 @@
 -- What each form of an operation comes to, where the code is given its sources' words. Assumes nothing.
+use Rattle.std.specs.Prelude.{Result, ℕ}
 use mathlib.Core.List.{List}
 use mathlib.Core.Path.{◌≡◌, refl, sym, ap, ◌∙◌}
 use Prim.Native.Nat.{ℕ, ◌+◌}
@@ -9,7 +10,6 @@ use Rattle.lane_word.specs.Word as Word
 use Rattle.rv32_arithmetic.specs.Arithmetic.{add, target}
 use Rattle.riscv32imc.specs.Constants.{image_base}
 use Rattle.lane_word.specs.declared.LaneWord.{LaneWord}
-use Rattle.lane_word.specs.declared.Uniform.{Uniform}
 use Rattle.lane_word.specs.Word.{constant, unary, binary, uniform_of}
 use Rattle.lane_word.proofs.ToldLaws.{binary_constant}
 use Rattle.predicate_semantics.specs.Choice.{choose}
@@ -24,24 +24,19 @@ use Rattle.predicate_semantics.specs.Memory.{write}
 use Rattle.predicate_semantics.specs.Tested.{Tested, passed, refused, ◌>>=◌, require}
 use Rattle.predicate_semantics.specs.Lane.{LaneState, reg, inside, agreed_as, agreed, access, room_for, execute}
 use Rattle.lane_memory.specs.Rows.{row_count, new_bytes}
-use Rattle.lane_access.specs.declared.Verdict.{Verdict}
 use Rattle.lane_access.specs.Seen.{seen}
-use Rattle.lane_access.specs.Answers.{verdict_of}
 use Rattle.lane_access.proofs.Laws.{inside_fits, agreed_is}
 use Rattle.riscv32imc_predicate.specs.Setting.{Setting}
 use Rattle.riscv32imc_predicate.specs.Changes.{Given, Sources}
 use Rattle.riscv32imc_predicate.proofs.LaneCount.{lane_count}
-
--- a verdict is what the code matched it with
-pub verdict_is : {r v : Verdict} {t : Tested (Unit {0})} → r ≡ v → verdict_of r ≡ t → t ≡ verdict_of v
-verdict_is e h = sym h ∙ ap verdict_of e
+use Rattle.lane_word.specs.declared.UniformError.{UniformError}
 
 -- a uniform test of a computed word, by what is told of it
-tested_both : (role : ℕ) (u : Uniform) (f : ℕ → ℕ → ℕ) (left right : LaneWord) → u ≡ uniform_of (binary f left right)
+tested_both : (role : ℕ) (u : Result ℕ UniformError) (f : ℕ → ℕ → ℕ) (left right : LaneWord) → u ≡ uniform_of (binary f left right)
     → agreed_as role u ≡ agreed role (binary f left right)
 tested_both role u f left right h = ap (agreed_as role) h ∙ sym (agreed_is role (binary f left right))
 
-tested_number : (role : ℕ) (u : Uniform) (f : ℕ → ℕ → ℕ) (n : ℕ) (left : LaneWord) → length left.values ≡ Word.lanes
+tested_number : (role : ℕ) (u : Result ℕ UniformError) (f : ℕ → ℕ → ℕ) (n : ℕ) (left : LaneWord) → length left.values ≡ Word.lanes
     → u ≡ uniform_of (binary f left (constant Word.lanes n)) → agreed_as role u ≡ agreed role (unary (λ v. f v n) left)
 tested_number role u f n left e h =
     tested_both role u f left (constant Word.lanes n) h ∙ ap (agreed role) (binary_constant f Word.lanes n left e)
@@ -80,7 +75,7 @@ module _ {c : Setting} {s : LaneState} {image rows : List ℕ} {written : ℕ} (
   after_address right n (passed address) = rw (room_is right n address)
 
   -- the forms with sources: the rest follows what the lanes agree on
-  module _ {left right : LaneWord} {tested : Uniform} where
+  module _ {left right : LaneWord} {tested : Result ℕ UniformError} where
     pub compute_is : {rd a b : ℕ} {f : Binary} → Sources c s (action.Compute rd f a b) left right tested
         → execute c.program c.setup s next (action.Compute rd f a b) ≡ passed (sets rd (binary (value_of f) left right) next)
     unfolding execute

@@ -1,4 +1,5 @@
 -- The last test, and what a state that the code stands at gives it. Assumes nothing.
+use Rattle.std.specs.Prelude.{Option}
 use mathlib.Core.Path.{◌≡◌, refl, sym, ap, subst}
 use mathlib.Core.Bool.{Bool, true, false}
 use Prim.Native.Nat.{ℕ, ◌+◌, ◌^◌, ◌<◌}
@@ -15,7 +16,6 @@ use Rattle.predicate_semantics.proofs.Always.{no_pass}
 use Rattle.lane_memory.proofs.Laws.{holds_new}
 use Rattle.lane_access.specs.Seen.{seen}
 use Rattle.lane_access.proofs.Laws.{seen_holds}
-use Rattle.riscv32imc_predicate.specs.declared.Tag.{Tag}
 use Rattle.riscv32imc_predicate.specs.declared.Recorded.{Recorded}
 use Rattle.riscv32imc_predicate.specs.Setting.{Setting, Environment}
 use Rattle.riscv32imc_predicate.specs.Changes.{Given}
@@ -74,6 +74,6 @@ module _ {c : Setting} {g : Environment} {m : Machine} {s : LaneState} (h : Stan
       (q s.locations (omega (arith, h.tracks.kept.located, b)) h.keeps))
 
   -- the word at stop's return value
-  pub return_word : (u : Tag) (d : LaneWord) → reg c.program c.setup s 10 ≡ word_of (get_or m.tags 10 u).told (get_or m.words 10 d)
+  pub return_word : (u : Option ℕ) (d : LaneWord) → reg c.program c.setup s 10 ≡ word_of (get_or m.tags 10 u) (get_or m.words 10 d)
   unfolding reg
   return_word u d = held_source h.held 10 _ u d h.serves.least_registers

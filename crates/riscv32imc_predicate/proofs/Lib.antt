@@ -1,4 +1,5 @@
 -- Laws that the answers for the functions cite.
+mod Exits
 mod LaneCount
 mod Filing
 mod Execution

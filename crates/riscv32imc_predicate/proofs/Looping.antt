@@ -1,17 +1,13 @@
 -- The loop over the registers: its invariant, with laws for its start, its step and its end. Assumes nothing.
+use Rattle.std.specs.Prelude.{Err, None, Ok, Option, Result, Some, ℕ}
 use mathlib.Core.Path.{◌≡◌, refl, sym, ap, ◌∙◌, subst}
 use mathlib.Core.Option.{some}
 use mathlib.Core.List.{List}
-use Prim.Native.Nat.{ℕ, suc, ◌+◌, ◌-◌, ◌^◌, ◌≤◌, ◌<◌}
-use native.Mathlib.Nat.{mod-eq_of_lt}
+use Prim.Native.Nat.{ℕ, suc, ◌≤◌, ◌<◌}
 use native.Mathlib.Omega.{arith}
 use lib.ListN.{length, get_or, set}
 use Rattle.rv32_arithmetic.specs.Value.{value_of}
 use Rattle.lane_word.specs.declared.LaneWord.{LaneWord}
-use Rattle.lane_word.specs.declared.Told.{Told}
-use Rattle.lane_word.specs.declared.Told.TheVariants.{Value}
-use Rattle.lane_word.specs.declared.Uniform.{Uniform}
-use Rattle.lane_word.specs.declared.Uniform.TheVariants as uniform
 use Rattle.lane_word.specs.Word.{unknown, constant, binary, uniform_of, lanes}
 use Rattle.lane_word.specs.Told.{word_of, told_by}
 use Rattle.lane_word.proofs.ToldLaws.{binary_size, word_size, told_by_value}
@@ -28,22 +24,21 @@ use Rattle.lane_memory.specs.Rows.{cleared}
 use Rattle.lane_access.specs.Seen.{seen}
 use Rattle.riscv32imc_predicate.specs.declared.Change.{Change}
 use Rattle.riscv32imc_predicate.specs.declared.Change.TheVariants as change
-use Rattle.riscv32imc_predicate.specs.declared.Decision.{Decision}
-use Rattle.riscv32imc_predicate.specs.declared.Decision.TheVariants as decision
+use Rattle.riscv32imc_predicate.specs.declared.Step.{Step}
 use Rattle.riscv32imc_predicate.specs.declared.Ending.{Ending}
 use Rattle.riscv32imc_predicate.specs.declared.Ending.TheVariants as ending
-use Rattle.riscv32imc_predicate.specs.declared.Place.{Place}
 use Rattle.riscv32imc_predicate.specs.declared.Progress.{Progress}
 use Rattle.riscv32imc_predicate.specs.declared.Reached.{Reached}
 use Rattle.riscv32imc_predicate.specs.declared.Recorded.{Recorded}
 use Rattle.riscv32imc_predicate.specs.Setting.{Setting, Environment, registers_of, register_count}
 use Rattle.riscv32imc_predicate.specs.Changes.{decision_of, Untold, Suits, Sources}
 use Rattle.riscv32imc_predicate.specs.Coming.{Continues, Ends}
-use Rattle.riscv32imc_predicate.specs.Register.{first_operand, second_operand, Held, blank, held_by_value, held_by_lanes, slot_of, operand_told, place_of, laid_out, Stores, LoadsLanes}
+use Rattle.riscv32imc_predicate.specs.Register.{first_operand, second_operand, Held, blank, slot_of, operand_told, place_of, laid_out, Stores, LoadsLanes}
 use Rattle.riscv32imc_predicate.specs.Tracking.{Machine, Stands, Arrives, reached_with, Located, Decides}
 use Rattle.riscv32imc_predicate.proofs.Filing.{held_source, held_lanes, held_value, held_word, held_laid, laid_read, laid_other, place_apart, operand_word}
 use Rattle.riscv32imc_predicate.proofs.Following.{given, return_word}
 use Rattle.riscv32imc_predicate.proofs.Stepping.{after, next_of, Leaves, Completes, Decided, Passes, passes, stepped, on_passed, on_refused, leaves_going, leaves_setting, leaves_storing}
+use Rattle.lane_word.specs.declared.UniformError.{UniformError}
 
 abbrev pub with_words : Machine → List LaneWord → Machine
 with_words m words = record { place = m.place; tags = m.tags; words = words; noted = m.noted; rows = m.rows; trace = m.trace }
@@ -65,17 +60,17 @@ pub arrives_as : {c : Setting} {g : Environment} {s : LaneState} {m : Machine} {
     → (q : Ending) → Ends c g.bounds.pause q i.state → {r : Reached} → r ≡ reached_with b.place q b.noted b.words b.tags
     → Arrives c g s r b.rows b.trace
 arrives_as i b h q e z =
-    rw z (record { state = i.state; taken = i.taken; after = i.came; stands = h; ends = e; return_word = sym (return_word h (held_by_value 0) blank) })
+    rw z (record { state = i.state; taken = i.taken; after = i.came; stands = h; ends = e; return_word = sym (return_word h None blank) })
 
 -- ---- the words of a step, by what the loop holds
 
-abbrev pub told_first : Progress → Machine → Told
-told_first progress m = (get_or m.tags progress.reading.rs1 (held_by_value 0)).told
+abbrev pub told_first : Progress → Machine → Option ℕ
+told_first progress m = get_or m.tags progress.reading.rs1 None
 
-abbrev pub told_second : Progress → Machine → Told
-told_second progress m = (get_or m.tags progress.reading.rs2 (held_by_value 0)).told
+abbrev pub told_second : Progress → Machine → Option ℕ
+told_second progress m = get_or m.tags progress.reading.rs2 None
 
-abbrev pub told_operand : Progress → Machine → Told
+abbrev pub told_operand : Progress → Machine → Option ℕ
 told_operand progress m = operand_told progress.reading (told_second progress m)
 
 abbrev pub word_first : Progress → Machine → LaneWord
@@ -88,7 +83,7 @@ abbrev pub result_of : Progress → Machine → LaneWord
 result_of progress m = computed progress.reading (word_first progress m) (word_second progress m)
 
 -- what the loop knows once the word is computed or told: its registers are held still, and its lanes are the result's where no value is
-pub record Computed (n : ℕ) (m : Machine) (registers : List LaneWord) (result : LaneWord) (words : List LaneWord) (word : LaneWord) (tested : Uniform) : Type 0 where
+pub record Computed (n : ℕ) (m : Machine) (registers : List LaneWord) (result : LaneWord) (words : List LaneWord) (word : LaneWord) (tested : Result ℕ UniformError) : Type 0 where
   pub keeps : Held n m.tags words registers
   pub sized : length word.values ≡ lanes
   pub tells : tested ≡ uniform_of result
@@ -102,9 +97,9 @@ pub record Laid (progress : Progress) (m : Machine) (words₁ words₂ : List La
   pub second_place : place₂ ≡ place_of (told_operand progress m) progress.reading.rs2 second_operand
 
 -- how the loop came to the word: two told values, or lanes
-pub data Works (progress : Progress) (m : Machine) (words : List LaneWord) (word₀ word : LaneWord) (tested : Uniform) : Type 0 where
-  by_value : (v : ℕ) → told_by (value_of progress.reading.function) (told_first progress m) (told_operand progress m) ≡ Value v
-      → words ≡ m.words → word ≡ word₀ → tested ≡ uniform.Value v → Works progress m words word₀ word tested
+pub data Works (progress : Progress) (m : Machine) (words : List LaneWord) (word₀ word : LaneWord) (tested : Result ℕ UniformError) : Type 0 where
+  by_value : (v : ℕ) → told_by (value_of progress.reading.function) (told_first progress m) (told_operand progress m) ≡ Some v
+      → words ≡ m.words → word ≡ word₀ → tested ≡ Ok v → Works progress m words word₀ word tested
   by_words : {words₁ : List LaneWord} {place₁ place₂ : ℕ} → Laid progress m words₁ words place₁ place₂
       → word ≡ binary (value_of progress.reading.function) (get_or words place₁ blank) (get_or words place₂ blank)
       → tested ≡ uniform_of word → Works progress m words word₀ word tested
@@ -117,12 +112,12 @@ Rests a b new = (b.noted ≡ a.noted) × (b.rows ≡ a.rows) × (new ≡ 0)
 -- from one machine to another, with the computed word; `new` bytes get an address
 abbrev pub Applied : Environment → Progress → LaneWord → Change → Machine → Machine → ℕ → Type 0
 Applied g progress word change.Nothing a b new = (b.tags ≡ a.tags) × (b.words ≡ a.words) × Rests a b new
-Applied g progress word (change.Sets rd z) a b new = (b.tags ≡ set a.tags (slot_of rd) (held_by_value z)) × (b.words ≡ a.words) × Rests a b new
+Applied g progress word (change.Sets rd z) a b new = (b.tags ≡ set a.tags (slot_of rd) (Some z)) × (b.words ≡ a.words) × Rests a b new
 Applied g progress word (change.Computes rd) a b new =
-    (b.tags ≡ set a.tags (slot_of rd) held_by_lanes) × (b.words ≡ set a.words (slot_of rd) word) × Rests a b new
+    (b.tags ≡ set a.tags (slot_of rd) None) × (b.words ≡ set a.words (slot_of rd) word) × Rests a b new
 Applied g progress word (change.Loads rd at n e) a b new =
     (loaded : LaneWord) × LoadsLanes g.image a.rows at n e loaded
-    × (b.tags ≡ set a.tags (slot_of rd) held_by_lanes) × (b.words ≡ set a.words (slot_of rd) loaded) × Rests a b new
+    × (b.tags ≡ set a.tags (slot_of rd) None) × (b.words ≡ set a.words (slot_of rd) loaded) × Rests a b new
 Applied g progress word (change.Stores at n) a b new =
     (b.tags ≡ a.tags) × (b.words ≡ a.words) × Stores a.rows at n (word_second progress a) new b.rows
     × Located a.noted a.place.pc at n g.symbols.event_count b.noted
@@ -140,11 +135,6 @@ pub stores_as : {rows : List ℕ} {a n : ℕ} {z x : LaneWord} {new new' : ℕ} 
     → new' ≡ new → rows₂ ≡ rows₁ → z ≡ x → Stores rows a n x new' rows₂
 stores_as o e f g = rw (e, f, ← g) o
 
--- a completed step leaves fewer
-pub fewer_left : {m : Machine} {progress : Progress} {next new : ℕ} {place : Place} {trace : List ℕ} {limit : ℕ} → Completes m progress next new place trace
-    → m.place.steps < limit → limit < 2 ^ 32 → limit - place.steps < limit - m.place.steps
-fewer_left {m} o h s = omega (arith, ap (λ (x : Place). x.steps) o.moves ∙ mod-eq_of_lt {n = m.place.steps + 1} (omega (arith, h, s)), h)
-
 -- ---- a turn, from a fetched instruction
 
 module _ {c : Setting} {g : Environment} {s : LaneState} {m : Machine} {word : LaneWord} (i : Looped c g s m word) {progress : Progress} (k : Continues c progress i.state) where
@@ -161,14 +151,14 @@ module _ {c : Setting} {g : Environment} {s : LaneState} {m : Machine} {word : L
   most : n ≤ register_count
   most = i.stands.held.most
 
-  source : (j : ℕ) → j < n → reg c.program c.setup i.state j ≡ word_of (get_or m.tags j (held_by_value 0)).told (get_or m.words j blank)
+  source : (j : ℕ) → j < n → reg c.program c.setup i.state j ≡ word_of (get_or m.tags j None) (get_or m.words j blank)
   unfolding reg
-  source j h = held_source i.stands.held j _ (held_by_value 0) blank h
+  source j h = held_source i.stands.held j _ None blank h
 
   size₁ : length (word_first progress m).values ≡ lanes
   size₁ = word_size (told_first progress m) _ (held_lanes i.stands.held progress.reading.rs1 blank (omega (arith, sources.0, most)))
 
-  size₂ : (u : Told) → length (word_of u (get_or m.words progress.reading.rs2 blank)).values ≡ lanes
+  size₂ : (u : Option ℕ) → length (word_of u (get_or m.words progress.reading.rs2 blank)).values ≡ lanes
   size₂ u = word_size u _ (held_lanes i.stands.held progress.reading.rs2 blank (omega (arith, sources.1, most)))
 
   -- as the code computes it
@@ -178,12 +168,12 @@ module _ {c : Setting} {g : Environment} {s : LaneState} {m : Machine} {word : L
   result_size : length (result_of progress m).values ≡ lanes
   result_size = ap (λ (x : LaneWord). length x.values) (sym by_operands) ∙ binary_size _ (word_first progress m) _ size₁ (size₂ (told_operand progress m))
 
-  abbrev ComputedAt : List LaneWord → LaneWord → Uniform → Type 0
+  abbrev ComputedAt : List LaneWord → LaneWord → Result ℕ UniformError → Type 0
   ComputedAt words word tested = Computed n m i.state.registers (result_of progress m) words word tested
 
   -- two told values
-  computed_told : (v : ℕ) → told_by (value_of progress.reading.function) (told_first progress m) (told_operand progress m) ≡ Value v
-      → ComputedAt m.words word (uniform.Value v)
+  computed_told : (v : ℕ) → told_by (value_of progress.reading.function) (told_first progress m) (told_operand progress m) ≡ Some v
+      → ComputedAt m.words word (Ok v)
   computed_told v e = record {
     keeps = i.stands.held;
     sized = i.size;
@@ -195,12 +185,12 @@ module _ {c : Setting} {g : Environment} {s : LaneState} {m : Machine} {word : L
   }
 
   -- lanes
-  computed_lanes : {words₁ words₂ : List LaneWord} {place₁ place₂ : ℕ} {word' : LaneWord} {tested : Uniform} → Laid progress m words₁ words₂ place₁ place₂
+  computed_lanes : {words₁ words₂ : List LaneWord} {place₁ place₂ : ℕ} {word' : LaneWord} {tested : Result ℕ UniformError} → Laid progress m words₁ words₂ place₁ place₂
       → word' ≡ binary (value_of progress.reading.function) (get_or words₂ place₁ blank) (get_or words₂ place₂ blank)
       → tested ≡ uniform_of word' → ComputedAt words₂ word' tested
   computed_lanes {words₁} {words₂} {place₁} {place₂} {word'} {tested} l h t =
-      let u : Told = told_first progress m in
-      let v : Told = told_operand progress m in
+      let u : Option ℕ = told_first progress m in
+      let v : Option ℕ = told_operand progress m in
       let below₁ : progress.reading.rs1 < register_count = omega (arith, sources.0, most) in
       let below₂ : progress.reading.rs2 < register_count = omega (arith, sources.1, most) in
       let kept₁ : Held n m.tags words₁ i.state.registers = rw l.first_words (held_laid i.stands.held u first_operand (omega arith) (omega arith)) in
@@ -220,12 +210,12 @@ module _ {c : Setting} {g : Environment} {s : LaneState} {m : Machine} {word : L
         by_lanes_word = λ _. is;
       }
 
-  pub computed_now : {words : List LaneWord} {word' : LaneWord} {tested : Uniform} → Works progress m words word word' tested → ComputedAt words word' tested
+  pub computed_now : {words : List LaneWord} {word' : LaneWord} {tested : Result ℕ UniformError} → Works progress m words word word' tested → ComputedAt words word' tested
   computed_now (by_value v e a b t) = rw (a, b, t) (computed_told v e)
   computed_now (by_words l h t) = computed_lanes l h t
 
   -- the change is decided on that word
-  module _ {words : List LaneWord} {word' : LaneWord} {tested : Uniform} (j : ComputedAt words word' tested) where
+  module _ {words : List LaneWord} {word' : LaneWord} {tested : Result ℕ UniformError} (j : ComputedAt words word' tested) where
     gives : Sources c i.state progress.action (word_first progress m) (word_second progress m) tested
     gives = record {
       first = ap (λ (x : Reading). reg c.program c.setup i.state x.rs1) (sym k.reads) ∙ source progress.reading.rs1 sources.0;
@@ -238,31 +228,31 @@ module _ {c : Setting} {g : Environment} {s : LaneState} {m : Machine} {word : L
     -- the second source's word is still there
     second_now : word_second progress (with_words m words) ≡ word_second progress m
     second_now =
-        sym (held_source j.keeps progress.reading.rs2 (unknown lanes) (held_by_value 0) blank sources.1)
-        ∙ held_source i.stands.held progress.reading.rs2 (unknown lanes) (held_by_value 0) blank sources.1
+        sym (held_source j.keeps progress.reading.rs2 (unknown lanes) None blank sources.1)
+        ∙ held_source i.stands.held progress.reading.rs2 (unknown lanes) None blank sources.1
 
-    decided : (d : Decision) → Decides g.image m.rows progress m.place tested g.bounds.entries d
+    decided : (d : Result Step Rv32Error) → Decides g.image m.rows progress m.place tested g.bounds.entries d
         → Decided c g m progress i.state (result_of progress m) (word_second progress m) d
     decided d h =
         subst (λ (x : Reading). Decided c g m progress i.state (computed x (word_first progress m) (word_second progress m)) (word_second progress m) d) (sym k.reads)
         (h c i.state (given i.stands) (word_first progress m) (word_second progress m) gives)
 
     -- a refused step: the loop stands where it stood
-    pub looped_refused : (e : Rv32Error) → Decides g.image m.rows progress m.place tested g.bounds.entries (decision.Refused e)
+    pub looped_refused : (e : Rv32Error) → Decides g.image m.rows progress m.place tested g.bounds.entries (Err e)
         → Stands c g (with_words m words) i.state × Ends c g.bounds.pause (ending.Refused e) i.state
     looped_refused e h = (
       record { serves = i.stands.serves; tracks = i.stands.tracks; keeps = i.stands.keeps; held = j.keeps },
-      on_refused i.stands k (result_of progress m) (word_second progress m) e (decided (decision.Refused e) h),
+      on_refused i.stands k (result_of progress m) (word_second progress m) e (decided (Err e) h),
     )
 
     -- a step that goes on, to a machine whose place and trace are the completed step's
     module _ (b : Machine) (new next : ℕ) (o : Completes m progress next new b.place b.trace) where
       abbrev Goes : Change → Type 0
-      Goes x = Decides g.image m.rows progress m.place tested g.bounds.entries (decision.Goes x next) × Suits tested (decision.Goes x next)
+      Goes x = Decides g.image m.rows progress m.place tested g.bounds.entries (Ok (record { change = x; next = next })) × Suits tested (Ok (record { change = x; next = next }))
 
       passing : (x : Change) → Goes x → (z : Effect LaneWord)
-          → decision_of (seen g.image m.rows) (result_of progress m) (word_second progress m) (decision.Goes x next) ≡ passed z → Passes i.stands k z
-      passing x h z same = passes i.stands k (result_of progress m) (word_second progress m) (decision.Goes x next) (decided (decision.Goes x next) h.0) z same
+          → decision_of (seen g.image m.rows) (result_of progress m) (word_second progress m) (Ok (record { change = x; next = next })) ≡ passed z → Passes i.stands k z
+      passing x h z same = passes i.stands k (result_of progress m) (word_second progress m) (Ok (record { change = x; next = next })) (decided (Ok (record { change = x; next = next })) h.0) z same
 
       -- the loop after it
       on : (z : Effect LaneWord) → next_of z ≡ next → Passes i.stands k z → {noted : Recorded} {rows : List ℕ} → b.noted ≡ noted → b.rows ≡ rows

@@ -1,13 +1,14 @@
 -- The run before its first step and after its last: tests 1, 2, 17 and 13, and what the outcome is. Assumes nothing.
+use Rattle.std.specs.Prelude.{Ok, Result}
 use mathlib.Core.Path.{◌≡◌, refl, sym, ap, ◌∙◌, subst}
-use mathlib.Core.Bool.{Bool, true, false, not, ◌&&◌}
+use mathlib.Core.Bool.{Bool, true, false, ◌&&◌}
 use mathlib.Core.List.{List, []}
-use Prim.Native.Nat.{ℕ, zero, suc, ◌+◌, ◌-◌, ◌*◌, ◌%◌, ◌^◌, ◌≤◌, ◌<◌}
+use Prim.Native.Nat.{ℕ, ◌+◌, ◌-◌, ◌*◌, ◌%◌, ◌^◌, ◌≤◌, ◌<◌}
 use native.Mathlib.Nat.{mod-eq_of_lt, mul-le-mul_right}
 use native.Mathlib.Omega.{arith}
 use lib.Dec.{leb, ltb}
 use lib.ListN.{length}
-use borrow.Author.Tests.{lt-ltb, ltb-true}
+use borrow.Author.Tests.{ltb-true}
 use Rattle.little_endian.specs.Lent.{over}
 use Rattle.rv32_arithmetic.specs.Arithmetic.{mul}
 use Rattle.riscv32imc.specs.Constants.{image_base}
@@ -19,15 +20,13 @@ use Rattle.lane_word.specs.Spare.{lane_inputs}
 use Rattle.predicate_answer.specs.declared.CompiledMmioEvent.{CompiledMmioEvent}
 use Rattle.predicate_answer.specs.declared.PredicateTransducerExecution.{PredicateTransducerExecution}
 use Rattle.predicate_answer.specs.declared.Rv32Error.{Rv32Error}
+use Rattle.predicate_answer.specs.declared.RecordOutcome.{RecordOutcome}
 use Rattle.predicate_answer.specs.Refusal.{Refusal, refusal_of}
 use Rattle.predicate_answer.specs.Blank.{max_events, no_events}
-use Rattle.predicate_answer.specs.declared.CallVerdict.{CallVerdict}
-use Rattle.predicate_answer.specs.declared.CallVerdict.TheVariants as verdict
-use Rattle.predicate_answer.specs.declared.RecordAnswer.TheVariants as recorded
 use Rattle.predicate_semantics.specs.declared.Rv32SymbolLayout.{Rv32SymbolLayout}
 use Rattle.predicate_semantics.specs.declared.Rv32Program.{Rv32Program}
 use Rattle.predicate_semantics.specs.Program.{stop, stop_word, event_stride, memory_end, image_end, sized, symbols_placed, in_memory}
-use Rattle.predicate_semantics.specs.State.{Result}
+use Rattle.predicate_semantics.specs.State.{RunResult}
 use Rattle.predicate_semantics.specs.Tested.{Tested, passed, refused, ◌>>=◌, refuse, require, allow}
 use Rattle.predicate_semantics.specs.Lane.{LaneState, Ended, count_of_lanes, on, begin, start_tests, start, lane_run, finish}
 use Rattle.predicate_semantics.specs.Call.{range_test}
@@ -49,29 +48,17 @@ use Rattle.riscv32imc_predicate.specs.declared.Ending.TheVariants as ending
 use Rattle.riscv32imc_predicate.specs.declared.Recorded.{Recorded}
 use Rattle.riscv32imc_predicate.specs.declared.Registers.{Registers}
 use Rattle.riscv32imc_predicate.specs.declared.Reached.{Reached}
-use Rattle.riscv32imc_predicate.specs.declared.PredicateRun.{PredicateRun}
 use Rattle.riscv32imc_predicate.specs.Setting.{Setting, Environment, environment, first_state, rest, registers_of}
 use Rattle.riscv32imc_predicate.specs.Coming.{Ends}
 use Rattle.riscv32imc_predicate.specs.Register.{Held, StartsWith}
 use Rattle.riscv32imc_predicate.specs.Tracking.{machine, Stands, Arrives, Advances, start_place, start_recorded}
 use Rattle.riscv32imc_predicate.specs.Reporting.{refused_run, reported, Counts, whole, never, whole_run, Calls, Reports}
 use Rattle.riscv32imc_predicate.proofs.LaneCount.{lane_count}
-
-pub off : (b : Bool) → not b ≡ true → b ≡ false
-off true e = sym e
-off false e = refl
-
-pub off_off : (b : Bool) → not b ≡ false → b ≡ true
-off_off true e = refl
-off_off false e = sym e
-
-pub positive : (n : ℕ) → (n ≡ 0 → ⊥) → ltb 0 n ≡ true
-positive zero h = absurd (h refl)
-positive (suc n) h = lt-ltb 0 (suc n) (omega arith)
+use Rattle.predicate_answer.specs.declared.CallError.{CallError}
 
 -- ---- what is reported of an answer
 
-abbrev result_at : LaneState → ℕ → List CompiledMmioEvent → Result
+abbrev result_at : LaneState → ℕ → List CompiledMmioEvent → RunResult
 result_at s value found = record { return_value = value; steps = s.steps; trace = s.trace; events = found }
 
 -- the numbers of an accepted run, as the code has them
@@ -87,9 +74,9 @@ numbers_of range place noted value = record {
 }
 
 module _ (range : InputRange) (s : LaneState) where
-  pub reports_refused : (t : Tested Result) (x : Rv32Error) (k : ℕ) → k ≡ s.steps → t ≡ refused (refusal_of x)
-      → {r : PredicateRun} → r ≡ refused_run x k → r ≡ reported range s t
-  reports_refused t x k e q h = h ∙ ap (refused_run x) e ∙ ap (reported range s) (sym q)
+  pub reports_refused : (t : Tested RunResult) (x : Rv32Error) (k : ℕ) → k ≡ s.steps → t ≡ refused (refusal_of x)
+      → {r : RecordOutcome} → r ≡ refused_run x k → Ok r ≡ reported range s t
+  reports_refused t x k e q h = ap Ok (h ∙ ap (refused_run x) e) ∙ ap (reported range s) (sym q)
 
   module _ {place : Place} {noted : Recorded} (byte : range.last < lanes) (at : Counts place noted s) where
     numbers_are : (value : ℕ) (found : List CompiledMmioEvent) → length found ≡ length s.locations → length found ≤ max_events
@@ -103,7 +90,7 @@ module _ (range : InputRange) (s : LaneState) where
 
     pub reports_accepted : (c : Setting) (value : ℕ) (found events : List CompiledMmioEvent) → events ≡ over found no_events
         → finish c.program c.setup s ≡ passed (result_at s value found)
-        → record { verdict = verdict.Passed; outcome = record { answer = recorded.Accepted; execution = numbers_of range place noted value; events = events } }
+        → Ok (record { answer = Ok tt; execution = numbers_of range place noted value; events = events })
         ≡ reported range s (finish c.program c.setup s)
     reports_accepted c value found events z q =
         let f = events_located c.program c.setup s (result_at s value found) q in
@@ -116,7 +103,7 @@ and_right true b q = q
 and_right false true q = refl
 and_right false false q = q
 
-placed_true : (size : ℕ) (symbols : Rv32SymbolLayout) (choice : CallVerdict) (n : ℕ) → start_tests size symbols choice n ≡ passed tt → symbols_placed symbols ≡ true
+placed_true : (size : ℕ) (symbols : Rv32SymbolLayout) (choice : Result (Unit {0}) CallError) (n : ℕ) → start_tests size symbols choice n ≡ passed tt → symbols_placed symbols ≡ true
 unfolding start_tests ◌>>=◌ require refuse allow
 placed_true size symbols choice n = go (sized size) (symbols_placed symbols)
   where
@@ -126,7 +113,7 @@ placed_true size symbols choice n = go (sized size) (symbols_placed symbols)
     go false b q = absurd (no_pass q)
 
 -- every event lies below 2^32
-pub events_low : (size : ℕ) (symbols : Rv32SymbolLayout) (choice : CallVerdict) (n : ℕ) → start_tests size symbols choice n ≡ passed tt → symbols.events + max_events * event_stride ≤ 2 ^ 32
+pub events_low : (size : ℕ) (symbols : Rv32SymbolLayout) (choice : Result (Unit {0}) CallError) (n : ℕ) → start_tests size symbols choice n ≡ passed tt → symbols.events + max_events * event_stride ≤ 2 ^ 32
 unfolding symbols_placed in_memory
 events_low size symbols choice n h =
     let e : ℕ = symbols.events in
@@ -234,6 +221,6 @@ module _ {c : Setting} {image : List ℕ} {program : Rv32Program} {range : Input
         same_count = a.stands.keeps.0;
       }
 
-  pub runs_as : {e : Ended} → whole c ≡ e → {r : PredicateRun} {rows' trace' : List ℕ}
+  pub runs_as : {e : Ended} → whole c ≡ e → {r : Result RecordOutcome CallError} {rows' trace' : List ℕ}
       → r ≡ reported range e.state e.answer → trace' ≡ put_entries c.lent 0 e.state.trace → cleared rows' ≡ cleared rows → Reports c range r rows rows' trace'
   runs_as same t b z = record { said = rw same t; entries = rw same b; same_rows = z }

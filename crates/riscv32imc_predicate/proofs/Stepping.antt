@@ -1,4 +1,5 @@
 -- A step of the code is the semantics' step: a law for those that go on, and one for those that are refused. Assumes nothing.
+use Rattle.std.specs.Prelude.{Err, Result}
 use mathlib.Core.Path.{◌≡◌, refl, sym, ap, ◌∙◌}
 use mathlib.Core.Bool.{true}
 use mathlib.Core.List.{List, [], ◌∷◌, ◌++◌}
@@ -30,8 +31,7 @@ use Rattle.lane_memory.specs.Holds.{Holds}
 use Rattle.lane_memory.proofs.Laws.{holds_new}
 use Rattle.lane_access.specs.Seen.{seen, Above}
 use Rattle.lane_access.proofs.Laws.{above_write}
-use Rattle.riscv32imc_predicate.specs.declared.Decision.{Decision}
-use Rattle.riscv32imc_predicate.specs.declared.Decision.TheVariants as decision
+use Rattle.riscv32imc_predicate.specs.declared.Step.{Step}
 use Rattle.riscv32imc_predicate.specs.declared.Ending.TheVariants as ending
 use Rattle.riscv32imc_predicate.specs.declared.Place.{Place}
 use Rattle.riscv32imc_predicate.specs.declared.Progress.{Progress}
@@ -84,7 +84,7 @@ pub record Completes (m : Machine) (progress : Progress) (next new : ℕ) (place
 -- ---- from a state with a fetched instruction
 
 -- what the step comes to, as the code decides, with the computed word and the second source's
-abbrev pub Decided : Setting → Environment → Machine → Progress → LaneState → LaneWord → LaneWord → Decision → Type 0
+abbrev pub Decided : Setting → Environment → Machine → Progress → LaneState → LaneWord → LaneWord → Result Step Rv32Error → Type 0
 Decided c g m progress s w x y =
     decision_of (seen g.image m.rows) w x y
     ≡ last_tested (execute c.program c.setup s (add m.place.pc progress.length) progress.action) m.place.steps g.bounds.entries
@@ -115,7 +115,7 @@ module _ {c : Setting} {g : Environment} {m : Machine} {progress : Progress} {s 
   abbrev pub Passes : Effect LaneWord → Type 0
   Passes z = (operates c s f ≡ passed z) × (ltb s.steps c.setup.entries ≡ true)
 
-  module _ (w x : LaneWord) (y : Decision) (d : Decided c g m progress s w x y) where
+  module _ (w x : LaneWord) (y : Result Step Rv32Error) (d : Decided c g m progress s w x y) where
     tested : decision_of (seen g.image m.rows) w x y ≡ (operates c s f >>= λ z. require 14 (ltb s.steps c.setup.entries) >>= λ _. passed z)
     tested =
         d
@@ -129,10 +129,10 @@ module _ {c : Setting} {g : Environment} {m : Machine} {progress : Progress} {s 
     passes z same = last_passed (operates c s f) (ltb s.steps c.setup.entries) z (sym tested ∙ same)
 
   -- a refused step ends the run
-  pub on_refused : (w x : LaneWord) (e : Rv32Error) → Decided c g m progress s w x (decision.Refused e) → Ends c g.bounds.pause (ending.Refused e) s
+  pub on_refused : (w x : LaneWord) (e : Rv32Error) → Decided c g m progress s w x (Err e) → Ends c g.bounds.pause (ending.Refused e) s
   on_refused w x e d =
       let z : step c.program c.setup s ≡ refused (refusal_of e)
-      = step_is c s f k.fetched ∙ last_refused (operates c s f) _ _ (refusal_of e) (sym (tested w x (decision.Refused e) d)) in
+      = step_is c s f k.fetched ∙ last_refused (operates c s f) _ _ (refusal_of e) (sym (tested w x (Err e) d)) in
       let fuel : c.limit - s.steps ≡ suc (c.limit - suc s.steps) = omega (arith, k.below) in
       rw fuel (run_refused c.program c.setup (c.limit - suc s.steps) s (refusal_of e) k.moving z)
 

@@ -1,37 +1,20 @@
 -- What comes at a place: stop, the pause, the limit, or a fetched instruction.
-use Rattle.std.specs.Prelude.{Bool, true, false, List, ◌≡◌, ℕ, ◌<◌, eqb}
+use Rattle.std.specs.Prelude.{true, false, List, ◌≡◌, ℕ, ◌<◌, eqb, Err, IfOk, Ok, Result}
 use Rattle.riscv_decode.specs.declared.Fetched.{Fetched}
-use Rattle.lane_word.specs.Word.{lanes}
-use Rattle.predicate_action.specs.declared.Action.TheVariants as action
 use Rattle.predicate_action.specs.Meaning.{meaning}
 use Rattle.predicate_action.specs.Reading.{reading_of, ReadsBelow}
 use Rattle.predicate_answer.specs.Refusal.{refusal_of}
 use Rattle.predicate_semantics.specs.declared.Rv32SymbolLayout.{Rv32SymbolLayout}
-use Rattle.predicate_semantics.specs.Program.{Core, stop}
+use Rattle.predicate_semantics.specs.Program.{stop}
 use Rattle.predicate_semantics.specs.Tested.{passed, refused}
 use Rattle.predicate_semantics.specs.Lane.{LaneState, count_of_lanes, memory_of, fetch}
 use Rattle.lane_access.specs.Seen.{seen}
-use Rattle.lane_access.specs.InForce.{InForce}
 use Rattle.riscv32imc_predicate.specs.declared.Bounds.{Bounds}
 use Rattle.riscv32imc_predicate.specs.declared.Place.{Place}
 use Rattle.riscv32imc_predicate.specs.declared.Ending.{Ending}
 use Rattle.riscv32imc_predicate.specs.declared.Ending.TheVariants as ending
 use Rattle.riscv32imc_predicate.specs.declared.Progress.{Progress}
-use Rattle.riscv32imc_predicate.specs.declared.ready.Instruction.{Instruction}
-use Rattle.riscv32imc_predicate.specs.declared.ready.Instruction.TheVariants as instruction
-use Rattle.riscv32imc_predicate.specs.Setting.{Setting, core_in_force, environment, Serves, register_count, rest}
-
--- what is fetched at a pc by every core that is in force there, and its action
-abbrev pub FetchesAs : List ℕ → List ℕ → ℕ → Instruction → Type 0
-FetchesAs image rows pc (instruction.Got action word size) =
-    (f : Fetched) × ((core : Core) (steps : ℕ) → InForce core_in_force core steps → passed f ≡ fetch lanes core (seen image rows) steps pc)
-    × (action ≡ meaning f.operation pc) × (word ≡ f.word) × (size ≡ f.length)
-FetchesAs image rows pc (instruction.Refused e) =
-    (core : Core) (steps : ℕ) → InForce core_in_force core steps → refused (refusal_of e) ≡ fetch lanes core (seen image rows) steps pc
-
--- no instruction
-abbrev pub ended_by : Ending → Progress
-ended_by q = record { more = false; ending = q; action = action.Nothing; word = 0; length = 0; reading = reading_of action.Nothing }
+use Rattle.riscv32imc_predicate.specs.Setting.{Setting, environment, Serves, register_count, rest}
 
 module _ (c : Setting) where
   -- a fetched instruction, with the run short of stop and of the limit
@@ -52,9 +35,9 @@ module _ (c : Setting) where
   Ends pause (ending.Refused e) s = rest c s ≡ record { state = s; answer = refused (refusal_of e) }
 
   -- what comes at a state: a step, or the end
-  abbrev pub Comes : ℕ → Bool → Progress → LaneState → Type 0
-  Comes pause true progress s = Continues progress s
-  Comes pause false progress s = Ends pause progress.ending s
+  abbrev pub Comes : ℕ → Result Progress Ending → LaneState → Type 0
+  Comes pause (Ok progress) s = Continues progress s
+  Comes pause (Err q) s = Ends pause q s
 
   -- a place in a state whose memory image and rows show
   pub record IsAt (image rows : List ℕ) (place : Place) (s : LaneState) : Type 0 where
@@ -63,8 +46,8 @@ module _ (c : Setting) where
     pub shown : memory_of c.program c.setup s ≡ seen image rows
 
 -- what comes at a place, in every state that is there; a step below the limit, which reads places that there are
-pub record Readied (image rows : List ℕ) (bounds : Bounds) (place : Place) (r : Progress) : Type 0 where
+pub record Readied (image rows : List ℕ) (bounds : Bounds) (place : Place) (r : Result Progress Ending) : Type 0 where
   pub comes : (c : Setting) (symbols : Rv32SymbolLayout) → Serves c (environment image symbols bounds) → (s : LaneState) → IsAt c image rows place s
-      → Comes c bounds.pause r.more r s
-  pub below : r.more ≡ true → place.steps < bounds.limit
-  pub reads : ReadsBelow register_count r.reading
+      → Comes c bounds.pause r s
+  pub below : IfOk r (λ progress. place.steps < bounds.limit)
+  pub reads : IfOk r (λ progress. ReadsBelow register_count progress.reading)

@@ -1,8 +1,7 @@
 -- The registers as the loop holds them: each told by one value, or by the lanes of its word.
-use Rattle.std.specs.Prelude.{false, cond, List, [], ◌∷◌, ◌≡◌, ℕ, zero, suc, ◌+◌, ◌≤◌, ◌<◌, ◌^◌, eqb, ltb, length, get_or, set}
+use Rattle.std.specs.Option.{option_or}
+use Rattle.std.specs.Prelude.{false, cond, List, [], ◌∷◌, ◌≡◌, ℕ, zero, suc, ◌+◌, ◌≤◌, ◌<◌, ◌^◌, eqb, ltb, length, get_or, set, None, Option, Some}
 use Rattle.lane_word.specs.declared.LaneWord.{LaneWord}
-use Rattle.lane_word.specs.declared.Told.{Told}
-use Rattle.lane_word.specs.declared.Told.TheVariants.{Value, Lanes}
 use Rattle.lane_word.specs.Word.{constant, unknown, unary, lanes}
 use Rattle.lane_word.specs.Told.{word_of}
 use Rattle.predicate_semantics.specs.Program.{stop, stack_pointer}
@@ -16,7 +15,6 @@ use Rattle.predicate_action.specs.Meaning.{extension_of}
 use Rattle.lane_memory.specs.Rows.{new_bytes, cleared}
 use Rattle.lane_memory.specs.Holds.{Holds}
 use Rattle.lane_access.specs.Seen.{seen}
-use Rattle.riscv32imc_predicate.specs.declared.Tag.{Tag}
 use Rattle.riscv32imc_predicate.specs.declared.Registers.{Registers}
 use Rattle.riscv32imc_predicate.specs.Setting.{register_count}
 
@@ -34,14 +32,14 @@ abbrev pub places : ℕ
 places = register_count + 3
 
 -- the words of the first n places
-unfoldable pub held_words : ℕ → List Tag → List LaneWord → List LaneWord
+unfoldable pub held_words : ℕ → List (Option ℕ) → List LaneWord → List LaneWord
 held_words zero us ws = []
 held_words (suc n) [] ws = []
 held_words (suc n) (u ∷ us) [] = []
-held_words (suc n) (u ∷ us) (w ∷ ws) = word_of u.told w ∷ held_words n us ws
+held_words (suc n) (u ∷ us) (w ∷ ws) = word_of u w ∷ held_words n us ws
 
 -- the places hold n registers; every word has its lanes
-pub record Held (n : ℕ) (tags : List Tag) (words registers : List LaneWord) : Type 0 where
+pub record Held (n : ℕ) (tags : List (Option ℕ)) (words registers : List LaneWord) : Type 0 where
   pub tags_size : length tags ≡ places
   pub words_size : length words ≡ places
   pub sized : (k : ℕ) → k < places → length (get_or words k (unknown lanes)).values ≡ lanes
@@ -58,13 +56,6 @@ start_registers n x10 =
 abbrev pub blank : LaneWord
 blank = record { values = []; known = false }
 
--- a word that one value tells, and one that its lanes do
-abbrev pub held_by_value : ℕ → Tag
-held_by_value v = record { told = Value v }
-
-abbrev pub held_by_lanes : Tag
-held_by_lanes = record { told = Lanes }
-
 -- the first registers of every core that the code has places for
 abbrev pub StartsWith : LaneWord → Registers → Type 0
 StartsWith x10 r = (n : ℕ) → n ≤ register_count → Held n r.tags r.words (start_registers n x10)
@@ -74,18 +65,18 @@ abbrev pub slot_of : ℕ → ℕ
 slot_of rd = cond (eqb rd 0) unread (cond (ltb rd register_count) rd unread)
 
 -- what is told of the second operand: a number, or the second source
-abbrev pub operand_told : Reading → Told → Told
-operand_told r u = cond r.immediate (Value r.operand) u
+abbrev pub operand_told : Reading → Option ℕ → Option ℕ
+operand_told r u = option_or r.immediate u
 
 -- where an operand's word is
-abbrev pub place_of : Told → ℕ → ℕ → ℕ
-place_of (Value v) register own = own
-place_of Lanes register own = register
+abbrev pub place_of : Option ℕ → ℕ → ℕ → ℕ
+place_of (Some v) register own = own
+place_of None register own = register
 
 -- the words once one value is laid out at a place of its own
-abbrev pub laid_out : Told → ℕ → List LaneWord → List LaneWord
-laid_out (Value v) own words = set words own (constant lanes v)
-laid_out Lanes own words = words
+abbrev pub laid_out : Option ℕ → ℕ → List LaneWord → List LaneWord
+laid_out (Some v) own words = set words own (constant lanes v)
+laid_out None own words = words
 
 -- a word's bytes are stored, some of them at new addresses
 pub record Stores (rows : List ℕ) (address width : ℕ) (w : LaneWord) (new : ℕ) (rows' : List ℕ) : Type 0 where

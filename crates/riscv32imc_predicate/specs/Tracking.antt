@@ -1,14 +1,13 @@
 -- How the code's values follow a state of the semantics' run.
 use Rattle.std.proofs.Math.Option.{some}
-use Rattle.std.specs.Prelude.{List, [], ◌∷◌, ◌++◌, ◌≡◌, ℕ, ◌+◌, ◌%◌, ◌^◌, ◌≤◌, ◌<◌, length, get_or, take, replicate}
+use Rattle.std.specs.Prelude.{List, [], ◌∷◌, ◌++◌, ◌≡◌, ℕ, ◌+◌, ◌%◌, ◌^◌, ◌≤◌, ◌<◌, length, get_or, take, replicate, None, Option, Result}
 use Rattle.rv32_arithmetic.specs.Arithmetic.{add}
 use Rattle.lane_word.specs.declared.LaneWord.{LaneWord}
-use Rattle.lane_word.specs.declared.Uniform.{Uniform}
 use Rattle.lane_word.specs.Told.{word_of}
+use Rattle.predicate_answer.specs.declared.Rv32Error.{Rv32Error}
 use Rattle.predicate_answer.specs.Blank.{max_events}
 use Rattle.predicate_semantics.specs.Program.{image_end}
 use Rattle.predicate_semantics.specs.State.{recorded}
-use Rattle.predicate_semantics.specs.Memory.{LaneBytes}
 use Rattle.predicate_semantics.specs.Lane.{LaneState, reg, execute}
 use Rattle.predicate_semantics.specs.Lane as Lane
 use Rattle.predicate_semantics.specs.Kept.{Kept}
@@ -20,15 +19,15 @@ use Rattle.lane_access.specs.Seen.{seen, Above}
 use Rattle.riscv32imc_predicate.specs.declared.Place.{Place}
 use Rattle.riscv32imc_predicate.specs.declared.Recorded.{Recorded}
 use Rattle.riscv32imc_predicate.specs.declared.Ending.{Ending}
-use Rattle.riscv32imc_predicate.specs.declared.Tag.{Tag}
 use Rattle.riscv32imc_predicate.specs.declared.Registers.{Registers}
 use Rattle.riscv32imc_predicate.specs.declared.Progress.{Progress}
-use Rattle.riscv32imc_predicate.specs.declared.Decision.{Decision}
+use Rattle.riscv32imc_predicate.specs.declared.Step.{Step}
 use Rattle.riscv32imc_predicate.specs.declared.Reached.{Reached}
 use Rattle.riscv32imc_predicate.specs.Setting.{Setting, Environment, Serves, registers_of}
-use Rattle.riscv32imc_predicate.specs.Changes.{decision_of, last_tested, Suits, Given, Sources}
+use Rattle.riscv32imc_predicate.specs.Changes.{decision_of, last_tested, Given, Sources}
 use Rattle.riscv32imc_predicate.specs.Coming.{Ends}
-use Rattle.riscv32imc_predicate.specs.Register.{Held, blank, held_by_value}
+use Rattle.riscv32imc_predicate.specs.Register.{Held, blank}
+use Rattle.lane_word.specs.declared.UniformError.{UniformError}
 
 -- the first locations are kept, all of them counted
 abbrev pub Keeps : Recorded → List ℕ → Type 0
@@ -50,7 +49,7 @@ pub record Tracks (c : Setting) (place : Place) (rows trace : List ℕ) (s : Lan
 -- what it changes: the place, what is told of the registers' words, the words, event locations, rows and trace
 pub record Machine : Type 0 where
   pub place : Place
-  pub tags : List Tag
+  pub tags : List (Option ℕ)
   pub words : List LaneWord
   pub noted : Recorded
   pub rows : List ℕ
@@ -74,14 +73,14 @@ pub record Stands (c : Setting) (g : Environment) (m : Machine) (s : LaneState) 
   pub held : Held (registers_of c) m.tags m.words s.registers
 
 -- what a call hands back; x10's word is one of its registers'
-abbrev pub reached_with : Place → Ending → Recorded → List LaneWord → List Tag → Reached
+abbrev pub reached_with : Place → Ending → Recorded → List LaneWord → List (Option ℕ) → Reached
 reached_with place ending noted words tags = record {
   place = place;
   ending = ending;
   recorded = noted;
   words = words;
   tags = tags;
-  x10 = word_of (get_or tags 10 (held_by_value 0)).told (get_or words 10 blank);
+  x10 = word_of (get_or tags 10 None) (get_or words 10 blank);
 }
 
 -- where the call ends: some completed steps on, and standing there
@@ -120,14 +119,8 @@ abbrev pub Located : Recorded → ℕ → ℕ → ℕ → ℕ → Recorded → T
 Located kept pc address width event_count r =
     (ls : List ℕ) → length ls + 1 < 2 ^ 32 → Keeps kept ls → Keeps r (recorded event_count pc address width ls)
 
--- the last test leaves a decision or refuses it
-abbrev pub LastTested : Decision → ℕ → ℕ → Decision → Type 0
-LastTested x steps entries y =
-    ((m : LaneBytes) (w r : LaneWord) → decision_of m w r y ≡ last_tested (decision_of m w r x) steps entries)
-    × ((u : Uniform) → Suits u x → Suits u y)
-
 -- a fetched step, in every state that the code is given, comes to the semantics' operation and the last test
-abbrev pub Decides : List ℕ → List ℕ → Progress → Place → Uniform → ℕ → Decision → Type 0
+abbrev pub Decides : List ℕ → List ℕ → Progress → Place → Result ℕ UniformError → ℕ → Result Step Rv32Error → Type 0
 Decides image rows progress place tested entries x =
     (c : Setting) (s : LaneState) → Given c s image rows place.written
     → (left right : LaneWord) → Sources c s progress.action left right tested

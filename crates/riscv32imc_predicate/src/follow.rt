@@ -15,6 +15,7 @@ fn added(recorded: Recorded, pc: u32) -> Recorded
     let count = recorded.count;
     let mut locations = recorded.locations;
     if count < EVENT_LIMIT {
+        // `usize` has no `From` of `u32`.
         locations[count as usize] = pc;
     }
     Recorded {
@@ -28,10 +29,8 @@ fn added(recorded: Recorded, pc: u32) -> Recorded
 pub fn located(recorded: Recorded, pc: u32, address: u32, width: u32, event_count: u32) -> Recorded
     ensures { Located recorded pc address width event_count result }
 {
-    if width == 4 {
-        if address == event_count {
-            return added(recorded, pc);
-        }
+    if width == 4 && address == event_count {
+        return added(recorded, pc);
     }
     recorded
 }
@@ -62,6 +61,7 @@ pub fn complete(
     let entry = PredicateControlStep {
         program_counter: place.pc,
         instruction_word: word,
+        // Cut, since `try_from` would have an error that never comes.
         instruction_bytes: (length % 256) as u8,
         next_program_counter: next,
     };

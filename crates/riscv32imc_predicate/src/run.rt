@@ -12,30 +12,27 @@ use super::decide::decide;
 use super::follow::{complete, located};
 use super::ready::ready;
 use super::{
-    Bounds, Change, Decision, Ending, FIRST_OPERAND, PLACES, Place, REGISTERS, Reached, Recorded,
-    Registers, SECOND_OPERAND, Tag, UNREAD,
+    Bounds, Change, Ending, FIRST_OPERAND, PLACES, Place, REGISTERS, Reached, Recorded, Registers,
+    SECOND_OPERAND, UNREAD,
 };
-use lane_word::{LaneWord, Told, Uniform, lanes_of, tell, told_by};
+use lane_word::{LaneWord, lanes_of, tell, told_by};
 use predicate_action::{Extension, Reading};
 use predicate_semantics::Rv32SymbolLayout;
-use rv32_arithmetic::Binary;
+use rv32_arithmetic::{Binary, value};
 
-fn second_operand(reading: Reading, second: Told) -> Told
+fn second_operand(reading: Reading, second: Option<u32>) -> Option<u32>
     ensures { result ≡ operand_told reading second }
 {
-    if reading.immediate {
-        return Told::Value(reading.operand);
-    }
-    second
+    reading.immediate.or(second)
 }
 
 // Where the word of an operand is: one value is laid out at a place of its own.
-fn place_of(told: Told, register: usize, own: usize) -> usize
+fn place_of(told: Option<u32>, register: usize, own: usize) -> usize
     ensures { result ≡ place_of told register own }
 {
     match told {
-        Told::Value(_) => own,
-        Told::Lanes => register,
+        Some(_) => own,
+        None => register,
     }
 }
 
@@ -69,7 +66,7 @@ fn operate(function: Binary, one: LaneWord, other: LaneWord) -> LaneWord
         Binary::Target => return one.jump_target(other),
         _ => {}
     }
-    one.map_binary(other, function)
+    one.map_binary(other, |a, b| value(function, a, b))
 }
 
 // Where a register is set; what is set in x0 is read by none.
@@ -79,6 +76,7 @@ fn slot_of(rd: u32) -> usize
     if rd == 0 {
         return UNREAD;
     }
+    // `usize` has no `From` of `u32`.
     if (rd as usize) < REGISTERS {
         return rd as usize;
     }
@@ -94,7 +92,7 @@ fn store_lanes(rows: &mut [u8], address: u32, width: u32, word: LaneWord) -> u32
     new
 }
 
-// The same of one value in every lane.
+// The same of one value in every lane. Two functions, as `lane_memory` has two.
 fn store_told(rows: &mut [u8], address: u32, width: u32, value: u32) -> u32
     ensures { Stores rows.old address width (constant lanes value) result rows.new }
 {
@@ -103,7 +101,7 @@ fn store_told(rows: &mut [u8], address: u32, width: u32, value: u32) -> u32
     new
 }
 
-// The same, lane by lane.
+// A loaded word, filled lane by lane.
 fn extend(word: LaneWord, extension: Extension) -> LaneWord
     ensures { (result ≡ unary (extension_of extension) word) × (length result.values ≡ lanes) }
 {
@@ -118,9 +116,11 @@ fn extend(word: LaneWord, extension: Extension) -> LaneWord
 fn load_lanes(image: &[u8], rows: &[u8], address: u32, width: u32, extension: Extension) -> LaneWord
     ensures { LoadsLanes image.now rows.now address width extension result }
 {
-    let loaded = lane_access::access(image, rows, address, width);
-    let word = loaded.word;
-    extend(word, extension)
+    match lane_access::access(image, rows, address, width) {
+        Ok(word) => extend(word, extension),
+        // Not reached where the decision tested the range.
+        Err(_) => LaneWord::unknown(),
+    }
 }
 
 // What a call hands back.
@@ -129,13 +129,11 @@ fn reached(
     ending: Ending,
     recorded: Recorded,
     words: [LaneWord; PLACES],
-    tags: [Tag; PLACES],
+    tags: [Option<u32>; PLACES],
 ) -> Reached
     ensures { result ≡ reached_with place ending recorded words tags }
 {
-    let tag = tags[10];
-    let told = tag.told;
-    let x10 = lanes_of(told, words[10]);
+    let x10 = lanes_of(tags[10], words[10]);
     Reached {
         place,
         ending,
@@ -147,6 +145,8 @@ fn reached(
 }
 
 // Steps up to stop, the pause or a refusal. The registers stay here, each told by one value or by its lanes; only single words cross calls.
+// Long, since a function pays at entry for the lane words among its locals: its parts as functions of their own cost a step of told
+// words half as much again.
 pub fn advance(
     first: Place,
     start: Registers,
@@ -160,85 +160,76 @@ pub fn advance(
     ensures advances { Advances (environment image.now symbols bounds) (machine first start kept rows.old trace.old) result rows.new trace.new }
     ensures rows_unchanged { cleared rows.new ≡ cleared rows.old }
 {
-    let mut words = start.words;
-    let mut tags = start.tags;
+    let Registers {
+        mut words,
+        mut tags,
+    } = start;
     let mut computed = LaneWord::unknown();
     let mut recorded = kept;
     let mut place = first;
     loop {
-        let progress = ready(place, image, rows, bounds);
-        if !progress.more {
-            let ending = progress.ending;
-            return reached(place, ending, recorded, words, tags);
-        }
+        let progress = match ready(place, image, rows, bounds) {
+            Ok(progress) => progress,
+            Err(ending) => return reached(place, ending, recorded, words, tags),
+        };
         let reading = progress.reading;
         let function = reading.function;
         let rs1 = reading.rs1 as usize;
         let rs2 = reading.rs2 as usize;
-        let one = tags[rs1];
-        let other = tags[rs2];
-        let left = one.told;
-        let second = other.told;
+        let left = tags[rs1];
+        let second = tags[rs2];
         let right = second_operand(reading, second);
         let known = told_by(function, left, right);
-        let mut tested = Uniform::Unknown;
-        match known {
-            Told::Value(value) => tested = Uniform::Value(value),
-            Told::Lanes => {
-                match left {
-                    Told::Value(value) => words[FIRST_OPERAND] = LaneWord::constant(value),
-                    Told::Lanes => {}
+        let tested = match known {
+            Some(value) => Ok(value),
+            None => {
+                if let Some(value) = left {
+                    words[FIRST_OPERAND] = LaneWord::constant(value);
                 }
-                match right {
-                    Told::Value(value) => words[SECOND_OPERAND] = LaneWord::constant(value),
-                    Told::Lanes => {}
+                if let Some(value) = right {
+                    words[SECOND_OPERAND] = LaneWord::constant(value);
                 }
                 let a = place_of(left, rs1, FIRST_OPERAND);
                 let b = place_of(right, rs2, SECOND_OPERAND);
                 computed = operate(function, words[a], words[b]);
-                tested = tell(computed.known, &computed.values);
+                tell(computed.known, &computed.values)
             }
-        }
-        let decision = decide(progress, place, tested, image, rows, bounds.entries);
-        match decision {
-            Decision::Refused(error) => {
-                return reached(place, Ending::Refused(error), recorded, words, tags);
+        };
+        let step = match decide(progress, place, tested, image, rows, bounds.entries) {
+            Ok(step) => step,
+            Err(error) => return reached(place, Ending::Refused(error), recorded, words, tags),
+        };
+        let new = match step.change {
+            Change::Nothing => 0,
+            Change::Sets { rd, value } => {
+                tags[slot_of(rd)] = Some(value);
+                0
             }
-            Decision::Goes { change, next } => {
-                let mut new: u32 = 0;
-                match change {
-                    Change::Nothing => {}
-                    Change::Sets { rd, value } => {
-                        let slot = slot_of(rd);
-                        tags[slot] = Tag {
-                            told: Told::Value(value),
-                        };
-                    }
-                    Change::Computes { rd } => {
-                        let slot = slot_of(rd);
-                        tags[slot] = Tag { told: Told::Lanes };
-                        words[slot] = computed;
-                    }
-                    Change::Loads {
-                        rd,
-                        address,
-                        width,
-                        extension,
-                    } => {
-                        let slot = slot_of(rd);
-                        tags[slot] = Tag { told: Told::Lanes };
-                        words[slot] = load_lanes(image, rows, address, width, extension);
-                    }
-                    Change::Stores { address, width } => {
-                        recorded = located(recorded, place.pc, address, width, symbols.event_count);
-                        match second {
-                            Told::Value(value) => new = store_told(rows, address, width, value),
-                            Told::Lanes => new = store_lanes(rows, address, width, words[rs2]),
-                        }
-                    }
+            Change::Computes { rd } => {
+                let slot = slot_of(rd);
+                tags[slot] = None;
+                words[slot] = computed;
+                0
+            }
+            Change::Loads {
+                rd,
+                address,
+                width,
+                extension,
+            } => {
+                let slot = slot_of(rd);
+                tags[slot] = None;
+                words[slot] = load_lanes(image, rows, address, width, extension);
+                0
+            }
+            Change::Stores { address, width } => {
+                recorded = located(recorded, place.pc, address, width, symbols.event_count);
+                match second {
+                    Some(value) => store_told(rows, address, width, value),
+                    None => store_lanes(rows, address, width, words[rs2]),
                 }
-                place = complete(place, progress.word, progress.length, next, new, trace);
             }
-        }
+        };
+        place = complete(place, progress.word, progress.length, step.next, new, trace);
     }
 }

@@ -1,5 +1,6 @@
 -- Tables of mask and match rows (Halfword and word), over any table.
-use Rattle.std.specs.Prelude.{Bool, true, cond, not, ◌&&◌, List, [], ◌∷◌, ◌≡◌, ℕ, suc, ◌+◌, ◌*◌, ◌^◌, ◌<◌, eqb, length, get_or}
+use Rattle.std.specs.Prelude.{Bool, true, not, ◌&&◌, List, [], ◌∷◌, ◌≡◌, ℕ, suc, ◌+◌, ◌*◌, ◌^◌, ◌<◌, eqb, length, get_or, Option}
+use Rattle.std.specs.List.{find}
 use Rattle.std.specs.Int.Bits.{bit_and}
 use Rattle.riscv_decode.specs.Listing.{Line, Fixed, Opcode, Funct3, Funct7, fixed, listing}
 use Rattle.riscv_decode.specs.declared.Row.{Row}
@@ -22,10 +23,9 @@ no_row = record { 0 = 0; 1 = 0; 2 = 0 }
 abbrev pub matches : Row → ℕ → Bool
 matches r w = eqb (bit_and w (row_mask r)) (row_match r)
 
--- the number of the first row that the word matches; 0 where it matches none
-unfoldable pub find_row : List Row → ℕ → ℕ
-find_row [] w = 0
-find_row (r ∷ rs) w = cond (matches r w) (row_number r) (find_row rs w)
+-- the first row that the word matches
+unfoldable pub find_row : List Row → ℕ → Option Row
+find_row rows w = find (λ r. matches r w) rows
 
 -- some bit that both masks have differs in the two matches
 abbrev pub apart : Row → Row → Bool

@@ -1,10 +1,9 @@
 -- What is claimed of the standing table and the decoder (Halfword and word), of every word. The proofs stand in proofs/Apart and proofs/Listed.
-use Rattle.std.specs.Prelude.{◌≡◌, ℕ, suc, ◌<◌, T, length, get_or}
+use Rattle.std.specs.Prelude.{◌≡◌, ℕ, suc, ◌<◌, T, length, get_or, None, Some}
 use Rattle.riscv_decode.specs.Listing.{operation_count, no_line, Opcode, Funct7, listing, operation, fixed, has}
 use Rattle.riscv_decode.specs.Rows.{row_number, no_row, matches, all_apart, standing_rows}
 use Rattle.riscv_decode.specs.Decode.{decode_of, listed_decode}
 use Rattle.riscv_decode.specs.Operands.{rType}
-use Rattle.riscv_decode.specs.declared.Decoded.TheVariants.{Known, Refused}
 use Rattle.riscv_decode.specs.declared.Operation.TheVariants.{Mulh, Mulhsu, Mulhu}
 
 -- each operation has its line, and each line its row
@@ -34,18 +33,18 @@ DecodeListed = (w : ℕ) → decode_of w ≡ listed_decode listing w
 -- each line is reached: a word that has its fields decodes to its operation
 abbrev pub LinesAccepted : Type 0
 LinesAccepted =
-    (i w : ℕ) → i < length listing → T (has (fixed (get_or listing i no_line)) w) → decode_of w ≡ Known (operation (get_or listing i no_line) w)
+    (i w : ℕ) → i < length listing → T (has (fixed (get_or listing i no_line)) w) → decode_of w ≡ Some (operation (get_or listing i no_line) w)
 
 -- MULH, MULHSU and MULHU are the words of opcode 33 with funct7 1 and funct3 1, 2 and 3
 abbrev pub UpperHalves : Type 0
 UpperHalves =
     (w : ℕ)
-    → (T (has (Funct7 0x33 1 1) w) → decode_of w ≡ Known (Mulh (rType w)))
-    × (T (has (Funct7 0x33 2 1) w) → decode_of w ≡ Known (Mulhsu (rType w)))
-    × (T (has (Funct7 0x33 3 1) w) → decode_of w ≡ Known (Mulhu (rType w)))
+    → (T (has (Funct7 0x33 1 1) w) → decode_of w ≡ Some (Mulh (rType w)))
+    × (T (has (Funct7 0x33 2 1) w) → decode_of w ≡ Some (Mulhsu (rType w)))
+    × (T (has (Funct7 0x33 3 1) w) → decode_of w ≡ Some (Mulhu (rType w)))
 
 -- a word of opcode 73, which the manual calls SYSTEM (ECALL, EBREAK, CSR instructions), matches no row, and is refused
 abbrev pub SystemRefused : Type 0
 SystemRefused =
     (w : ℕ) → T (has (Opcode 0x73) w)
-    → ((j : ℕ) → j < length standing_rows → T (matches (get_or standing_rows j no_row) w) → ⊥) × (decode_of w ≡ Refused)
+    → ((j : ℕ) → j < length standing_rows → T (matches (get_or standing_rows j no_row) w) → ⊥) × (decode_of w ≡ None)

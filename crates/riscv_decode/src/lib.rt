@@ -2,7 +2,7 @@
 #![tactic(auto)]
 
 ghost use Rattle.std.specs.Prelude.{◌≡◌};
-ghost use Rattle.riscv_decode.specs.Decode.{operation_of, decode_with, decode_of};
+ghost use Rattle.riscv_decode.specs.Decode.{decode_with, decode_of};
 
 pub mod operands;
 mod operations;
@@ -114,13 +114,6 @@ pub enum Operation {
     Mulhu(RType),
 }
 
-// What a word decodes to.
-#[derive(Clone, Copy)]
-pub enum Decoded {
-    Known(Operation),
-    Refused,
-}
-
 // A fetched instruction; the word is the one after expansion, the length that of its spelling, 2 or 4 bytes.
 #[derive(Clone, Copy)]
 pub struct Fetched {
@@ -129,35 +122,23 @@ pub struct Fetched {
     pub word: u32,
 }
 
-// A row of a decoding table: mask, match and operation number.
+// A row of a decoding table: mask, match and operation number, in a tuple, so that the table has one row to a line. A number, since an operation has
+// operands, which only a word gives.
 #[derive(Clone, Copy)]
 pub struct Row(pub u32, pub u32, pub u32);
 
-// The operation of a number, with the operands that the word has in its format; 0 and what is above the last have none.
-fn decode_as(number: u32, word: u32) -> Decoded
-    ensures { result ≡ operation_of number word }
-{
-    if number == 0 {
-        return Decoded::Refused;
-    }
-    if (OPERATIONS as u32) < number {
-        return Decoded::Refused;
-    }
-    Decoded::Known(operation_of(number, word))
-}
-
 // The operation of a word by a table; a word that matches no row is refused.
 #[tactic(auto, unfolding(crate::specs::Decode::decode_with))]
-pub fn decode_with(rows: Table, word: u32) -> Decoded
+pub fn decode_with(rows: Table, word: u32) -> Option<Operation>
     ensures { result ≡ decode_with rows word }
 {
-    decode_as(find_row(rows, word), word)
+    operation_of(find_row(rows, word)?.2, word)
 }
 
 // The operation of a word by the standing table.
 #[tactic(auto, unfolding(crate::specs::Decode::decode_of, crate::specs::Decode::decode_with))]
-pub fn decode(word: u32) -> Decoded
+pub fn decode(word: u32) -> Option<Operation>
     ensures { result ≡ decode_of word }
 {
-    decode_as(find_standing_row(word), word)
+    operation_of(find_standing_row(word)?.2, word)
 }

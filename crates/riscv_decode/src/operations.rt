@@ -1,16 +1,15 @@
 // The operation of a number.
-ghost use Rattle.std.specs.Prelude.{◌≡◌, ◌≤◌};
+ghost use Rattle.std.specs.Prelude.{◌≡◌, ◌≤◌, Some};
 ghost use Rattle.riscv_decode.specs.Decode.{operation_of};
-ghost use Rattle.riscv_decode.specs.Listing.{operation_count};
 
+use crate::Operation;
 use crate::operands::{b_type, i_type, j_type, r_type, s_type, shift_type, u_type};
-use crate::{Decoded, Operation};
 
 // Jumps, branches, loads and stores, and what puts an address together.
 #[tactic(auto, unfolding(crate::specs::Decode::operation_of, crate::specs::Listing::listing, crate::specs::Listing::operation))]
 fn transfer_of(number: u32, word: u32) -> Operation
     requires { (1 ≤ number) × (number ≤ 18) }
-    ensures { Decoded.Known result ≡ operation_of number word }
+    ensures { Some result ≡ operation_of number word }
 {
     match number {
         1 => Operation::Lui(u_type(word)),
@@ -34,52 +33,53 @@ fn transfer_of(number: u32, word: u32) -> Operation
     }
 }
 
-// What computes, and the fences.
+// What computes, and the fences. A number that is not here nor in `transfer_of` names none.
 #[tactic(auto, unfolding(crate::specs::Decode::operation_of, crate::specs::Listing::listing, crate::specs::Listing::operation))]
-fn computing_of(number: u32, word: u32) -> Operation
-    requires { (19 ≤ number) × (number ≤ operation_count) }
-    ensures { Decoded.Known result ≡ operation_of number word }
+fn computing_of(number: u32, word: u32) -> Option<Operation>
+    requires { 1 ≤ number → 19 ≤ number }
+    ensures { result ≡ operation_of number word }
 {
     match number {
-        19 => Operation::Addi(i_type(word)),
-        20 => Operation::Slti(i_type(word)),
-        21 => Operation::Sltiu(i_type(word)),
-        22 => Operation::Xori(i_type(word)),
-        23 => Operation::Ori(i_type(word)),
-        24 => Operation::Andi(i_type(word)),
-        25 => Operation::Slli(shift_type(word)),
-        26 => Operation::Srli(shift_type(word)),
-        27 => Operation::Srai(shift_type(word)),
-        28 => Operation::Add(r_type(word)),
-        29 => Operation::Sub(r_type(word)),
-        30 => Operation::Sll(r_type(word)),
-        31 => Operation::Slt(r_type(word)),
-        32 => Operation::Sltu(r_type(word)),
-        33 => Operation::Xor(r_type(word)),
-        34 => Operation::Srl(r_type(word)),
-        35 => Operation::Sra(r_type(word)),
-        36 => Operation::Or(r_type(word)),
-        37 => Operation::And(r_type(word)),
-        38 => Operation::Mul(r_type(word)),
-        39 => Operation::Div(r_type(word)),
-        40 => Operation::Divu(r_type(word)),
-        41 => Operation::Rem(r_type(word)),
-        42 => Operation::Remu(r_type(word)),
-        43 => Operation::Fence,
-        44 => Operation::FenceI,
-        45 => Operation::Mulh(r_type(word)),
-        46 => Operation::Mulhsu(r_type(word)),
-        _ => Operation::Mulhu(r_type(word)),
+        19 => Some(Operation::Addi(i_type(word))),
+        20 => Some(Operation::Slti(i_type(word))),
+        21 => Some(Operation::Sltiu(i_type(word))),
+        22 => Some(Operation::Xori(i_type(word))),
+        23 => Some(Operation::Ori(i_type(word))),
+        24 => Some(Operation::Andi(i_type(word))),
+        25 => Some(Operation::Slli(shift_type(word))),
+        26 => Some(Operation::Srli(shift_type(word))),
+        27 => Some(Operation::Srai(shift_type(word))),
+        28 => Some(Operation::Add(r_type(word))),
+        29 => Some(Operation::Sub(r_type(word))),
+        30 => Some(Operation::Sll(r_type(word))),
+        31 => Some(Operation::Slt(r_type(word))),
+        32 => Some(Operation::Sltu(r_type(word))),
+        33 => Some(Operation::Xor(r_type(word))),
+        34 => Some(Operation::Srl(r_type(word))),
+        35 => Some(Operation::Sra(r_type(word))),
+        36 => Some(Operation::Or(r_type(word))),
+        37 => Some(Operation::And(r_type(word))),
+        38 => Some(Operation::Mul(r_type(word))),
+        39 => Some(Operation::Div(r_type(word))),
+        40 => Some(Operation::Divu(r_type(word))),
+        41 => Some(Operation::Rem(r_type(word))),
+        42 => Some(Operation::Remu(r_type(word))),
+        43 => Some(Operation::Fence),
+        44 => Some(Operation::FenceI),
+        45 => Some(Operation::Mulh(r_type(word))),
+        46 => Some(Operation::Mulhsu(r_type(word))),
+        47 => Some(Operation::Mulhu(r_type(word))),
+        _ => None,
     }
 }
 
-// The operation of a number, with the operands that the word has in its format. Two jumps by number, as one would be too long a function.
-pub fn operation_of(number: u32, word: u32) -> Operation
-    requires { (1 ≤ number) × (number ≤ operation_count) }
-    ensures { Decoded.Known result ≡ operation_of number word }
+// The operation of a number, with the operands that the word has in its format; 0 and what is above the last have none.
+// In two parts, as one `match` would be too long a function.
+pub fn operation_of(number: u32, word: u32) -> Option<Operation>
+    ensures { result ≡ operation_of number word }
 {
-    if number < 19 {
-        return transfer_of(number, word);
+    match number {
+        1..=18 => Some(transfer_of(number, word)),
+        _ => computing_of(number, word),
     }
-    computing_of(number, word)
 }

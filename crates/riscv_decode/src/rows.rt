@@ -1,8 +1,11 @@
 // The table of mask and match rows, and its scan.
 ghost use Rattle.std.specs.Prelude.{◌≡◌};
-ghost use Rattle.riscv_decode.specs.Rows.{standing_rows, Stands, matches, find_row};
+ghost use Rattle.riscv_decode.specs.Rows.{standing_rows, matches, find_row};
+
+mod likely;
 
 use crate::{OPERATIONS, Row};
+use likely::likely_row;
 
 // A table of as many rows as there are operations.
 pub type Table = [Row; OPERATIONS];
@@ -121,151 +124,32 @@ impl Row {
     pub fn matches(self, word: u32) -> bool
         ensures { result ≡ matches self word }
     {
-        word & self.0 == self.1
+        let Row(mask, value, _) = self;
+        word & mask == value
     }
 }
 
-// The number of the first row that the word matches; 0 where it matches none.
-pub fn find_row(rows: Table, word: u32) -> u32
+// The first row that the word matches. By `find` its proof was not found within the search's limits.
+#[tactic(auto, using(crate::proofs::Scan::hit, crate::proofs::Scan::miss, crate::proofs::Scan::done))]
+pub fn find_row(rows: Table, word: u32) -> Option<Row>
     ensures { result ≡ find_row rows word }
 {
-    let mut i = 0;
-    while i < OPERATIONS {
-        let row = rows[i];
+    for row in &rows {
         if row.matches(word) {
-            return row.2;
+            return Some(*row);
         }
-        i += 1;
     }
-    0
-}
-
-// Guesses at the row that a word matches: a wrong one costs a scan and changes no answer. They name rows, since the
-// table read at an index is copied first.
-fn likely_branch(funct3: u32) -> Row
-    ensures { Stands result }
-{
-    match funct3 {
-        0 => BEQ,
-        1 => BNE,
-        4 => BLT,
-        5 => BGE,
-        6 => BLTU,
-        _ => BGEU,
-    }
-}
-
-fn likely_load(funct3: u32) -> Row
-    ensures { Stands result }
-{
-    match funct3 {
-        0 => LB,
-        1 => LH,
-        2 => LW,
-        4 => LBU,
-        _ => LHU,
-    }
-}
-
-fn likely_store(funct3: u32) -> Row
-    ensures { Stands result }
-{
-    match funct3 {
-        0 => SB,
-        1 => SH,
-        _ => SW,
-    }
-}
-
-// Opcode 13; bit 30 tells SRAI from SRLI.
-fn likely_immediate(funct3: u32, bit30: u32) -> Row
-    ensures { Stands result }
-{
-    match funct3 {
-        0 => ADDI,
-        1 => SLLI,
-        2 => SLTI,
-        3 => SLTIU,
-        4 => XORI,
-        5 => match bit30 {
-            0 => SRLI,
-            _ => SRAI,
-        },
-        6 => ORI,
-        _ => ANDI,
-    }
-}
-
-// Opcode 33 with neither bit 25 nor bit 30.
-fn likely_plain(funct3: u32) -> Row
-    ensures { Stands result }
-{
-    match funct3 {
-        0 => ADD,
-        1 => SLL,
-        2 => SLT,
-        3 => SLTU,
-        4 => XOR,
-        5 => SRL,
-        6 => OR,
-        _ => AND,
-    }
-}
-
-// Opcode 33; bit 25 tells the multiplications and divisions, bit 30 SUB and SRA.
-fn likely_register(funct3: u32, bit25: u32, bit30: u32) -> Row
-    ensures { Stands result }
-{
-    if bit25 == 1 {
-        return match funct3 {
-            0 => MUL,
-            1 => MULH,
-            2 => MULHSU,
-            3 => MULHU,
-            4 => DIV,
-            5 => DIVU,
-            6 => REM,
-            _ => REMU,
-        };
-    }
-    if bit30 == 1 {
-        return match funct3 {
-            0 => SUB,
-            _ => SRA,
-        };
-    }
-    likely_plain(funct3)
-}
-
-// By opcode, funct3, bit 25 and bit 30.
-fn likely_row(word: u32) -> Row
-    ensures { Stands result }
-{
-    let funct3 = word / 0x1000 % 8;
-    let bit25 = word / 0x200_0000 % 2;
-    let bit30 = word / 0x4000_0000 % 2;
-    match word % 0x80 {
-        0x37 => LUI,
-        0x17 => AUIPC,
-        0x6f => JAL,
-        0x67 => JALR,
-        0x63 => likely_branch(funct3),
-        0x03 => likely_load(funct3),
-        0x23 => likely_store(funct3),
-        0x13 => likely_immediate(funct3, bit30),
-        0x33 => likely_register(funct3, bit25, bit30),
-        0x0f => FENCE,
-        _ => LUI,
-    }
+    None
 }
 
 // The same by the standing table. No word matches two of its rows, so the likely one is tried before the scan.
-pub fn find_standing_row(word: u32) -> u32
+#[tactic(auto, using(crate::proofs::Apart::by_row))]
+pub fn find_standing_row(word: u32) -> Option<Row>
     ensures { result ≡ find_row standing_rows word }
 {
     let likely = likely_row(word);
     if likely.matches(word) {
-        return likely.2;
+        return Some(likely);
     }
     find_row(standing_rows(), word)
 }

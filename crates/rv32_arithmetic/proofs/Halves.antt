@@ -4,7 +4,7 @@ use Rattle.std.proofs.Common.{◌≡◌, ℕ, zero, suc, ◌+◌, ◌-◌, ◌*�
 use Rattle.rv32_arithmetic.specs.Arithmetic.{signed, sub, mul, product, mulhu}
 use Rattle.rv32_arithmetic.specs.Halves.{LowerHalf}
 use Rattle.rv32_arithmetic.specs.Correction.{correction}
-use Rattle.rv32_arithmetic.proofs.Product.{below}
+use Rattle.std.proofs.lemmas.Nat.{mul-lt}
 
 -- the magnitude of a word that is negative: what it lacks of 2 ^ 32
 abbrev magnitude : ℕ → ℕ
@@ -67,7 +67,7 @@ takes_nothing : (x : ℕ) → x < 2 ^ 32 → sub x 0 ≡ x
 takes_nothing x h = omega arith
 
 mulhu_fits : (a b : ℕ) → a < 2 ^ 32 → b < 2 ^ 32 → mulhu a b < 2 ^ 32
-mulhu_fits a b h g = omega (arith, below 32 h g)
+mulhu_fits a b h g = omega (arith, mul-lt a b (2 ^ 32) (2 ^ 32) h g)
 
 -- signed by unsigned
 pub mixed_halves : (a b : ℕ) → a < 2 ^ 32 → b < 2 ^ 32 → Halves (product signed pos a b) (sub (mulhu a b) (correction a b)) (mul a b)

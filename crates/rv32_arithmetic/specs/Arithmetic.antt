@@ -1,4 +1,4 @@
--- What each operation computes of 32-bit values (the manual's RV32I and M chapters; document 01, Lane word).
+-- What each operation computes of 32-bit values (the manual's RV32I and M chapters).
 use Rattle.std.specs.Prelude.{ℕ, ◌+◌, ◌-◌, ◌*◌, ◌/◌, ◌%◌, ◌^◌, Bool, cond, not, ℤ, pos, ◌*ℤ◌, ◌==◌, bit_and, bit_or, bit_xor, int_div, int_lt, int_rem, nat_lt}
 use Rattle.std.specs.Int.Signed.{shr_z}
 use Rattle.std.specs.Int.{w32, w64}

@@ -1,4 +1,4 @@
--- Lane word: the corners of the arithmetic that document 01 names, as one claim. The proof stands in proofs/Corners.
+-- The corners of the arithmetic, as one claim: a divisor of 0, the quotient that does not fit, signs, shifts by more than 31 places, and what wraps. The proof stands in proofs/Corners.
 use Rattle.std.specs.Prelude.{◌≡◌, ℕ}
 use Rattle.rv32_arithmetic.specs.Arithmetic.{add, sub, sra, mul, mulh, mulhsu, mulhu, div, divu, rem, remu}
 

@@ -2,79 +2,52 @@
 #![tactic(auto)]
 
 ghost use Rattle.std.specs.Prelude.{◌≡◌};
-ghost use Rattle.rv32_arithmetic.specs.Arithmetic.{signed, unsigned, flag, add, sub, sll, srl, sra, slt, sltu, and, or, xor, mul, mulh, mulhsu, mulhu, div, divu, rem, remu, beq, bne, bge, bgeu, target};
+ghost use Rattle.rv32_arithmetic.specs.Arithmetic.{add, sub, sll, srl, sra, slt, sltu, and, or, xor, mul, mulh, mulhsu, mulhu, div, divu, rem, remu, beq, bne, bge, bgeu, target};
 ghost use Rattle.rv32_arithmetic.specs.Bits.{sign_extend, byte_of, join};
 ghost use Rattle.rv32_arithmetic.specs.Correction.{correction};
 ghost use Rattle.rv32_arithmetic.specs.Divisor.{power_of};
 ghost use Rattle.rv32_arithmetic.specs.Value.{value_of};
 
-// A word read as a two's complement number. `!` takes n to -n - 1.
-fn as_signed(x: u32) -> i32
-    ensures { result ≡ signed x }
-{
-    if x < 0x8000_0000 {
-        return x as i32;
-    }
-    !((0xffff_ffff - x) as i32)
-}
-
-// The word of a two's complement number.
-fn as_unsigned(z: i32) -> u32
-    ensures { result ≡ unsigned z }
-{
-    if 0 <= z {
-        return z as u32;
-    }
-    0xffff_ffff - (!z as u32)
-}
-
-// A test's value in a register.
-fn flag(test: bool) -> u32
-    ensures { result ≡ flag test }
-{
-    if test { 1 } else { 0 }
-}
-
 pub fn rv32_add(a: u32, b: u32) -> u32
     ensures { result ≡ add a b }
 {
-    std::num::wrapping_add_u32(a, b)
+    a.wrapping_add(b)
 }
 
 pub fn rv32_sub(a: u32, b: u32) -> u32
     ensures { result ≡ sub a b }
 {
-    std::num::wrapping_sub_u32(a, b)
+    a.wrapping_sub(b)
 }
 
 pub fn rv32_sll(a: u32, b: u32) -> u32
     ensures { result ≡ sll a b }
 {
-    a << (b % 32)
+    a.wrapping_shl(b)
 }
 
 pub fn rv32_srl(a: u32, b: u32) -> u32
     ensures { result ≡ srl a b }
 {
-    a >> (b % 32)
+    a.wrapping_shr(b)
 }
 
 pub fn rv32_sra(a: u32, b: u32) -> u32
     ensures { result ≡ sra a b }
 {
-    as_unsigned(as_signed(a) >> (b % 32))
+    a.cast_signed().wrapping_shr(b).cast_unsigned()
 }
 
 pub fn rv32_slt(a: u32, b: u32) -> u32
     ensures { result ≡ slt a b }
 {
-    flag(as_signed(a) < as_signed(b))
+    u32::from(a.cast_signed() < b.cast_signed())
 }
 
 pub fn rv32_sltu(a: u32, b: u32) -> u32
     ensures { result ≡ sltu a b }
 {
-    flag(a < b)
+    u32::from(a < b)
 }
 
 pub fn rv32_and(a: u32, b: u32) -> u32
@@ -95,10 +68,11 @@ pub fn rv32_xor(a: u32, b: u32) -> u32
     a ^ b
 }
 
+// All products are of u64, a rule of this project.
 pub fn rv32_mul(a: u32, b: u32) -> u32
     ensures { result ≡ mul a b }
 {
-    let product = (a as u64) * (b as u64);
+    let product = u64::from(a) * u64::from(b);
     (product % 0x1_0000_0000) as u32
 }
 
@@ -112,131 +86,98 @@ fn sign_correction(operand: u32, other: u32) -> u32
 pub fn rv32_mulhu(a: u32, b: u32) -> u32
     ensures { result ≡ mulhu a b }
 {
-    let product = (a as u64) * (b as u64);
+    let product = u64::from(a) * u64::from(b);
     (product / 0x1_0000_0000) as u32
 }
 
+#[tactic(auto, using(crate::proofs::Halves::mixed_halves))]
 pub fn rv32_mulhsu(a: u32, b: u32) -> u32
     ensures { result ≡ mulhsu a b }
 {
     rv32_sub(rv32_mulhu(a, b), sign_correction(a, b))
 }
 
+#[tactic(auto, using(crate::proofs::Halves::mixed_halves, crate::proofs::Halves::signed_halves))]
 pub fn rv32_mulh(a: u32, b: u32) -> u32
     ensures { result ≡ mulh a b }
 {
     rv32_sub(rv32_mulhsu(a, b), sign_correction(b, a))
 }
 
-// A signed quotient and its remainder.
-#[derive(Clone, Copy)]
-struct Division {
-    quotient: u32,
-    remainder: u32,
-}
-
-// DIV and REM together, with the manual's two corner cases: divisor 0, and the one quotient that does not fit.
-fn divide(dividend: u32, divisor: u32) -> Division
-    ensures { (result.quotient ≡ div dividend divisor) × (result.remainder ≡ rem dividend divisor) }
-{
-    if divisor == 0 {
-        return Division {
-            quotient: 0xffff_ffff,
-            remainder: dividend,
-        };
-    }
-    if dividend == 0x8000_0000 && divisor == 0xffff_ffff {
-        return Division {
-            quotient: dividend,
-            remainder: 0,
-        };
-    }
-    let a = as_signed(dividend);
-    let b = as_signed(divisor);
-    Division {
-        quotient: as_unsigned(a / b),
-        remainder: as_unsigned(a % b),
-    }
-}
-
+// DIV and REM have the manual's two corner cases: divisor 0, and the one quotient that does not fit, which wraps.
 pub fn rv32_div(dividend: u32, divisor: u32) -> u32
     ensures { result ≡ div dividend divisor }
 {
-    divide(dividend, divisor).quotient
+    if divisor == 0 {
+        return u32::MAX;
+    }
+    dividend
+        .cast_signed()
+        .wrapping_div(divisor.cast_signed())
+        .cast_unsigned()
 }
 
 pub fn rv32_rem(dividend: u32, divisor: u32) -> u32
     ensures { result ≡ rem dividend divisor }
 {
-    divide(dividend, divisor).remainder
-}
-
-// Whether a number is one of the 32 powers of two, and of how many places.
-#[derive(Clone, Copy)]
-pub enum PowerOfTwo {
-    Places(u32),
-    Other,
+    if divisor == 0 {
+        return dividend;
+    }
+    dividend
+        .cast_signed()
+        .wrapping_rem(divisor.cast_signed())
+        .cast_unsigned()
 }
 
 // The zeros below the lowest bit are the places if no bit is above it.
-pub fn power_of(x: u32) -> PowerOfTwo
+#[tactic(auto, using(crate::proofs::Divisor::told))]
+pub fn power_of(x: u32) -> Option<u32>
     ensures { result ≡ power_of x }
 {
-    let places = u32::trailing_zeros(x) % 32;
-    if 1u32 << places == x {
-        return PowerOfTwo::Places(places);
-    }
-    PowerOfTwo::Other
+    let places = x.trailing_zeros() % 32;
+    (1u32 << places == x).then_some(places)
 }
 
 // By a power of two a shift, which costs less than a division.
+#[tactic(auto, using(crate::proofs::Divisor::by_places))]
 pub fn rv32_divu(a: u32, b: u32) -> u32
     ensures { result ≡ divu a b }
 {
-    let power = power_of(b);
-    match power {
-        PowerOfTwo::Places(places) => a >> places,
-        PowerOfTwo::Other => {
-            if b == 0 {
-                return 0xffff_ffff;
-            }
-            a / b
-        }
+    match power_of(b) {
+        Some(places) => a >> places,
+        None => a.checked_div(b).unwrap_or(u32::MAX),
     }
 }
 
 pub fn rv32_remu(a: u32, b: u32) -> u32
     ensures { result ≡ remu a b }
 {
-    if b == 0 {
-        return a;
-    }
-    a % b
+    a.checked_rem(b).unwrap_or(a)
 }
 
 // The branch tests, 1 where the branch is taken; BLT and BLTU have those of SLT and SLTU.
 pub fn rv32_eq(a: u32, b: u32) -> u32
     ensures { result ≡ beq a b }
 {
-    flag(a == b)
+    u32::from(a == b)
 }
 
 pub fn rv32_ne(a: u32, b: u32) -> u32
     ensures { result ≡ bne a b }
 {
-    flag(a != b)
+    u32::from(a != b)
 }
 
 pub fn rv32_ge(a: u32, b: u32) -> u32
     ensures { result ≡ bge a b }
 {
-    flag(!(as_signed(a) < as_signed(b)))
+    u32::from(a.cast_signed() >= b.cast_signed())
 }
 
 pub fn rv32_geu(a: u32, b: u32) -> u32
     ensures { result ≡ bgeu a b }
 {
-    flag(!(a < b))
+    u32::from(a >= b)
 }
 
 // Where JALR goes: the even address at or below the sum.
@@ -247,6 +188,7 @@ pub fn jump_target(base: u32, offset: u32) -> u32
 }
 
 // One byte of a word, counted from the lowest; 0 above the highest.
+#[tactic(auto, using(crate::proofs::Bytes::shifted, crate::proofs::Bytes::above))]
 pub fn byte_of(word: u32, place: u32) -> u32
     ensures { result ≡ byte_of word place }
 {
@@ -260,10 +202,11 @@ pub fn byte_of(word: u32, place: u32) -> u32
 pub fn join(low: u32, high: u32) -> u32
     ensures { result ≡ join low high }
 {
-    std::num::wrapping_add_u32(low, high % 0x100_0000 * 256)
+    low.wrapping_add(high << 8)
 }
 
 // The low `bits` bits of `value` as a two's complement number, in 32 bits; all of `value` where `bits` is 32 or more.
+#[tactic(auto, using(crate::proofs::Extension::whole, crate::proofs::Extension::low_half, crate::proofs::Extension::high_half))]
 pub fn sign_extend(value: u32, bits: u32) -> u32
     ensures { result ≡ sign_extend value bits }
 {
@@ -273,12 +216,14 @@ pub fn sign_extend(value: u32, bits: u32) -> u32
     let range = 1u32 << bits;
     let low = value % range;
     if low < range - low {
-        return low;
+        low
+    } else {
+        low.wrapping_sub(range)
     }
-    low + (0xffff_ffff - (range - 1))
 }
 
-// The operations of two values.
+// The operations of two values. A value and no closure: an action carries it from the fetch to the step, and no function hands a closure out. No
+// instruction has the last three, of bytes.
 #[derive(Clone, Copy)]
 pub enum Binary {
     Add,

@@ -8,199 +8,157 @@
 // address 80000000, which its test leaves open, and the test's offset. oracle/vectors computes each result anew.
 #![tactic(auto)]
 
-ghost use Rattle.std.specs.Prelude.{◌+◌, ◌*◌, ◌<◌, ◌≤◌, length};
+ghost use Rattle.std.specs.Prelude.{◌<◌, ◌≤◌, length};
 
 use lane_word::LaneWord;
-use rv32_arithmetic::{Binary, value};
-use std::io;
-use test_support::{differs, end_line, read_full, say};
-
-const LINE: usize = 34;
+use rv32_arithmetic::{
+    rv32_add, rv32_and, rv32_div, rv32_divu, rv32_eq, rv32_ge, rv32_geu, rv32_mul, rv32_mulh,
+    rv32_mulhsu, rv32_mulhu, rv32_ne, rv32_or, rv32_rem, rv32_remu, rv32_sll, rv32_slt, rv32_sltu,
+    rv32_sra, rv32_srl, rv32_sub, rv32_xor,
+};
+use std::{array, io};
 
 #[derive(Clone, Copy)]
+struct Pair<'a> {
+    operation: &'a str,
+    left: u32,
+    right: u32,
+    result: u32,
+}
+
+#[derive(Clone, Copy, Default)]
 struct Counts {
     pairs: u64,
     words: u64,
     lanes: u64,
 }
 
-fn digit(b: u8) -> u32
-    ensures { result < 16 }
-{
-    if b < b'a' {
-        return (b % 16) as u32;
-    }
-    ((b % 16 + 9) % 16) as u32
+// None where the line has not all that a pair has.
+fn pair_of(line: &str) -> Option<Pair<'_>> {
+    let mut parts = line.split_whitespace();
+    let operation = parts.next()?;
+    let left = u32::from_str_radix(parts.next()?, 16).ok()?;
+    let right = u32::from_str_radix(parts.next()?, 16).ok()?;
+    let result = u32::from_str_radix(parts.next()?, 16).ok()?;
+    Some(Pair {
+        operation,
+        left,
+        right,
+        result,
+    })
 }
 
-// The word of eight digits.
-fn word(text: &[u8], at: usize) -> u32
-    requires { at + 8 ≤ length text.now }
+// The lane word of one operand: lane k has that of pair `first` + k; after the last pair comes the first of all.
+fn column<F: Fn(&Pair) -> u32>(pairs: &[Pair], first: usize, operand: F) -> LaneWord
+    requires callable { F.IsAlwaysCallable operand }
+    requires within { first < length pairs.now }
 {
-    let mut value: u32 = 0;
-    let mut k: usize = 0;
-    while k < 8 {
-        value = value % 0x1000_0000 * 16 + digit(text[at + k]);
-        k += 1;
-    }
-    value
-}
-
-// The lane word of one column: lane k has line `first` + k; after the last line comes line 0.
-fn column(text: &[u8], lines: usize, first: usize, offset: usize) -> LaneWord
-    requires { (0 < lines) × (lines * 34 ≤ length text.now) × (first ≤ lines) × (offset ≤ 26) }
-{
-    let mut values = [0u32; LaneWord::LANES];
-    let mut k: usize = 0;
-    while k < LaneWord::LANES {
-        values[k] = word(text, (first + k) % lines * LINE + offset);
-        k += 1;
-    }
     LaneWord {
-        values,
+        values: array::from_fn(|k| operand(&pairs[(first + k) % pairs.len()])),
         known: true,
     }
 }
 
-// The method of an operation, as the run chooses it.
-fn by_method(operation: Binary, left: LaneWord, right: LaneWord) -> LaneWord {
-    match operation {
-        Binary::Add => left.add(right),
-        Binary::Sub => left.sub(right),
-        Binary::Sll => left.sll(right),
-        Binary::Slt => left.slt(right),
-        Binary::Sltu => left.sltu(right),
-        Binary::Xor => left.xor(right),
-        Binary::Srl => left.srl(right),
-        Binary::Sra => left.sra(right),
-        Binary::Or => left.or(right),
-        Binary::And => left.and(right),
-        Binary::Mul => left.mul(right),
-        Binary::Mulh => left.mulh(right),
-        Binary::Mulhsu => left.mulhsu(right),
-        Binary::Mulhu => left.mulhu(right),
-        Binary::Div => left.div(right),
-        Binary::Divu => left.divu(right),
-        Binary::Rem => left.rem(right),
-        Binary::Remu => left.remu(right),
-        Binary::Eq => left.eq(right),
-        Binary::Ne => left.ne(right),
-        Binary::Ge => left.ge(right),
-        Binary::Geu => left.geu(right),
-        _ => left.map_binary(right, operation),
-    }
-}
-
-// One line, in a lane of its own with other lines around it: no pair where it is another operation's.
-fn compare(text: &[u8], lines: usize, line: usize, name: &[u8], operation: Binary) -> Counts
-    requires { (line < lines) × (lines * 34 ≤ length text.now) }
-    ensures { (result.pairs ≤ 1) × (result.words ≤ 1) × (result.lanes ≤ 1) }
+// What the lane of a pair has, with other pairs around it.
+fn by_lanes<L: Fn(LaneWord, LaneWord) -> LaneWord>(pairs: &[Pair], k: usize, lanes: &L) -> u32
+    requires callable { L.IsAlwaysCallable lanes.now }
+    requires within { k < length pairs.now }
 {
-    let at = line * LINE;
-    if &text[at..at + 6] != name {
-        return Counts {
-            pairs: 0,
-            words: 0,
-            lanes: 0,
-        };
+    let lane = k % LaneWord::LANES;
+    let left = column(pairs, k - lane, |pair| pair.left);
+    let right = column(pairs, k - lane, |pair| pair.right);
+    lanes(left, right).values[lane]
+}
+
+fn count<W: Fn(u32, u32) -> u32, L: Fn(LaneWord, LaneWord) -> LaneWord>(
+    pairs: &[Pair],
+    name: &str,
+    word: W,
+    lanes: L,
+) -> Counts
+    requires word { W.IsAlwaysCallable word }
+    requires lanes { L.IsAlwaysCallable lanes }
+{
+    let mut counts = Counts::default();
+    for (k, pair) in pairs.iter().enumerate() {
+        if pair.operation == name {
+            counts.pairs += 1;
+            counts.words += u64::from(word(pair.left, pair.right) != pair.result);
+            counts.lanes += u64::from(by_lanes(pairs, k, &lanes) != pair.result);
+        }
     }
-    let result = word(text, at + 25);
-    let lane = line % LaneWord::LANES;
-    let left = column(text, lines, line - lane, 7);
-    let right = column(text, lines, line - lane, 16);
-    let values = by_method(operation, left, right).values;
-    Counts {
-        pairs: 1,
-        words: differs(
-            value(operation, word(text, at + 7), word(text, at + 16)),
-            result,
-        ),
-        lanes: differs(values[lane], result),
-    }
+    counts
 }
 
-fn count(text: &[u8], name: &[u8], operation: Binary) -> Counts {
-    let lines = text.len() / LINE;
-    let mut pairs: u64 = 0;
-    let mut words: u64 = 0;
-    let mut lanes: u64 = 0;
-    let mut k: usize = 0;
-    while k < lines {
-        let counts = compare(text, lines, k, name, operation);
-        pairs += counts.pairs;
-        words += counts.words;
-        lanes += counts.lanes;
-        k += 1;
-    }
-    Counts {
-        pairs,
-        words,
-        lanes,
-    }
+fn report<W: Fn(u32, u32) -> u32 + Drop, L: Fn(LaneWord, LaneWord) -> LaneWord + Drop>(
+    out: &impl Print,
+    pairs: &[Pair],
+    name: &str,
+    word: W,
+    lanes: L,
+) -> io::Result<()>
+    requires word { W.IsAlwaysCallable word }
+    requires lanes { L.IsAlwaysCallable lanes }
+{
+    let counts = count(pairs, name, word, lanes);
+    println!(out;
+        "{name:<6} pairs {}, different by words {}, by lanes {}",
+        counts.pairs, counts.words, counts.lanes
+    )
 }
 
-fn report(out: &impl Print, text: &[u8], name: &[u8], operation: Binary) -> io::Result<()> {
-    let counts = count(text, name, operation);
-    out.write_all(name)?;
-    say(out, b" pairs ", counts.pairs)?;
-    say(out, b", different by words ", counts.words)?;
-    say(out, b", by lanes ", counts.lanes)?;
-    end_line(out)
+fn immediates(out: &impl Print, pairs: &[Pair]) -> io::Result<()> {
+    report(out, pairs, "lui", rv32_sra, LaneWord::sra)?;
+    report(out, pairs, "auipc", rv32_add, LaneWord::add)?;
+    report(out, pairs, "addi", rv32_add, LaneWord::add)?;
+    report(out, pairs, "slti", rv32_slt, LaneWord::slt)?;
+    report(out, pairs, "sltiu", rv32_sltu, LaneWord::sltu)?;
+    report(out, pairs, "xori", rv32_xor, LaneWord::xor)?;
+    report(out, pairs, "ori", rv32_or, LaneWord::or)?;
+    report(out, pairs, "andi", rv32_and, LaneWord::and)?;
+    report(out, pairs, "slli", rv32_sll, LaneWord::sll)?;
+    report(out, pairs, "srli", rv32_srl, LaneWord::srl)?;
+    report(out, pairs, "srai", rv32_sra, LaneWord::sra)
 }
 
-fn immediates(out: &impl Print, text: &[u8]) -> io::Result<()> {
-    report(out, text, b"lui   ", Binary::Sra)?;
-    report(out, text, b"auipc ", Binary::Add)?;
-    report(out, text, b"addi  ", Binary::Add)?;
-    report(out, text, b"slti  ", Binary::Slt)?;
-    report(out, text, b"sltiu ", Binary::Sltu)?;
-    report(out, text, b"xori  ", Binary::Xor)?;
-    report(out, text, b"ori   ", Binary::Or)?;
-    report(out, text, b"andi  ", Binary::And)?;
-    report(out, text, b"slli  ", Binary::Sll)?;
-    report(out, text, b"srli  ", Binary::Srl)?;
-    report(out, text, b"srai  ", Binary::Sra)
+fn branches(out: &impl Print, pairs: &[Pair]) -> io::Result<()> {
+    report(out, pairs, "beq", rv32_eq, LaneWord::eq)?;
+    report(out, pairs, "bne", rv32_ne, LaneWord::ne)?;
+    report(out, pairs, "blt", rv32_slt, LaneWord::slt)?;
+    report(out, pairs, "bge", rv32_ge, LaneWord::ge)?;
+    report(out, pairs, "bltu", rv32_sltu, LaneWord::sltu)?;
+    report(out, pairs, "bgeu", rv32_geu, LaneWord::geu)
 }
 
-fn branches(out: &impl Print, text: &[u8]) -> io::Result<()> {
-    report(out, text, b"beq   ", Binary::Eq)?;
-    report(out, text, b"bne   ", Binary::Ne)?;
-    report(out, text, b"blt   ", Binary::Slt)?;
-    report(out, text, b"bge   ", Binary::Ge)?;
-    report(out, text, b"bltu  ", Binary::Sltu)?;
-    report(out, text, b"bgeu  ", Binary::Geu)
+fn registers(out: &impl Print, pairs: &[Pair]) -> io::Result<()> {
+    report(out, pairs, "add", rv32_add, LaneWord::add)?;
+    report(out, pairs, "sub", rv32_sub, LaneWord::sub)?;
+    report(out, pairs, "sll", rv32_sll, LaneWord::sll)?;
+    report(out, pairs, "slt", rv32_slt, LaneWord::slt)?;
+    report(out, pairs, "sltu", rv32_sltu, LaneWord::sltu)?;
+    report(out, pairs, "xor", rv32_xor, LaneWord::xor)?;
+    report(out, pairs, "srl", rv32_srl, LaneWord::srl)?;
+    report(out, pairs, "sra", rv32_sra, LaneWord::sra)?;
+    report(out, pairs, "or", rv32_or, LaneWord::or)?;
+    report(out, pairs, "and", rv32_and, LaneWord::and)
 }
 
-fn registers(out: &impl Print, text: &[u8]) -> io::Result<()> {
-    report(out, text, b"add   ", Binary::Add)?;
-    report(out, text, b"sub   ", Binary::Sub)?;
-    report(out, text, b"sll   ", Binary::Sll)?;
-    report(out, text, b"slt   ", Binary::Slt)?;
-    report(out, text, b"sltu  ", Binary::Sltu)?;
-    report(out, text, b"xor   ", Binary::Xor)?;
-    report(out, text, b"srl   ", Binary::Srl)?;
-    report(out, text, b"sra   ", Binary::Sra)?;
-    report(out, text, b"or    ", Binary::Or)?;
-    report(out, text, b"and   ", Binary::And)
-}
-
-fn products(out: &impl Print, text: &[u8]) -> io::Result<()> {
-    report(out, text, b"mul   ", Binary::Mul)?;
-    report(out, text, b"mulh  ", Binary::Mulh)?;
-    report(out, text, b"mulhsu", Binary::Mulhsu)?;
-    report(out, text, b"mulhu ", Binary::Mulhu)?;
-    report(out, text, b"div   ", Binary::Div)?;
-    report(out, text, b"divu  ", Binary::Divu)?;
-    report(out, text, b"rem   ", Binary::Rem)?;
-    report(out, text, b"remu  ", Binary::Remu)
+fn products(out: &impl Print, pairs: &[Pair]) -> io::Result<()> {
+    report(out, pairs, "mul", rv32_mul, LaneWord::mul)?;
+    report(out, pairs, "mulh", rv32_mulh, LaneWord::mulh)?;
+    report(out, pairs, "mulhsu", rv32_mulhsu, LaneWord::mulhsu)?;
+    report(out, pairs, "mulhu", rv32_mulhu, LaneWord::mulhu)?;
+    report(out, pairs, "div", rv32_div, LaneWord::div)?;
+    report(out, pairs, "divu", rv32_divu, LaneWord::divu)?;
+    report(out, pairs, "rem", rv32_rem, LaneWord::rem)?;
+    report(out, pairs, "remu", rv32_remu, LaneWord::remu)
 }
 
 fn main(rt: HostRuntime) -> io::Result<()> {
-    let mut buffer = [0u8; 65_536];
-    let n = read_full(&mut rt.stdin(), &mut buffer)?;
-    let text = &buffer[..n];
-    immediates(&rt, text)?;
-    branches(&rt, text)?;
-    registers(&rt, text)?;
-    products(&rt, text)
+    let text = io::read_to_string(rt.alloc(), rt.reader())?;
+    let pairs: Vec<Pair> = text.lines().filter_map(pair_of).collect(rt.alloc())?;
+    immediates(&rt, &pairs)?;
+    branches(&rt, &pairs)?;
+    registers(&rt, &pairs)?;
+    products(&rt, &pairs)
 }

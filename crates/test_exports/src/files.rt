@@ -1,123 +1,58 @@
 // The files that the arguments name: each is read, without a trace and with one, and what is a record is written back.
 use super::records::{read_lent, write_lent};
-use super::show::{OUTCOME_WORDS, OUTPUT_BEFORE};
+use super::show::{OUTCOME_WORDS, OUTPUT_BEFORE, TRACE_BEFORE};
+use std::alloc::Global;
 use std::rt::{Env, Files};
 use std::{env, fs, io};
-use test_support::{end_line, read_full, say, say_word, unlike};
-
-// The longest file has 65,537 bytes.
-const FILE_BYTES: usize = 65_540;
+use test_support::unlike;
 
 // The entries of 4,097 steps, and a remainder.
 const TRACE_BYTES: usize = 53_266;
 
-fn wide(byte: u8) -> u32 {
-    byte as u32
-}
-
 // A number that another byte changes, and the same byte at another place.
-fn sum_of(s: &[u8]) -> u32 {
-    let mut low: u32 = 1;
-    let mut sum: u32 = 0;
-    let mut k: usize = 0;
-    while k < s.len() {
-        low = std::num::wrapping_add_u32(low, wide(s[k]));
-        sum = std::num::wrapping_add_u32(sum, low);
-        k += 1;
+fn sum_of(bytes: &[u8]) -> u32 {
+    let mut low = 1u32;
+    let mut sum = 0u32;
+    for byte in bytes {
+        low = low.wrapping_add(u32::from(*byte));
+        sum = sum.wrapping_add(low);
     }
     sum
-}
-
-fn write_whole(
-    out: &impl Print,
-    words: &[u32; OUTCOME_WORDS],
-    trace: &[u8],
-    bytes: &[u8],
-    output: &mut [u8],
-) -> io::Result<()> {
-    write_lent(out, b"  written back ", words, trace, output)?;
-    say(out, b"  as in the file ", (&*output == bytes) as u64)?;
-    end_line(out)
-}
-
-fn write_short(
-    out: &impl Print,
-    words: &[u32; OUTCOME_WORDS],
-    trace: &[u8],
-    output: &mut [u8],
-) -> io::Result<()> {
-    write_lent(out, b"  a byte short ", words, trace, output)?;
-    say(
-        out,
-        b"  unlike before ",
-        unlike(output, 0, output.len(), OUTPUT_BEFORE),
-    )?;
-    end_line(out)
 }
 
 // Writes a record to an output that just holds its bytes, and to one that is a byte shorter.
 fn write_back(
     out: &impl Print,
+    alloc: Global,
     words: &[u32; OUTCOME_WORDS],
     trace: &[u8],
     bytes: &[u8],
-    output: &mut [u8],
 ) -> io::Result<()> {
-    let n = bytes.len();
-    if n == 0 {
-        return Ok(());
-    }
-    if output.len() < n {
-        return Ok(());
-    }
-    write_whole(out, words, trace, bytes, &mut output[..n])?;
-    write_short(out, words, trace, &mut output[..n - 1])
+    let mut output = vec![in alloc; OUTPUT_BEFORE; bytes.len()]?;
+    println!(out; "  written back {}", write_lent(words, trace, &mut output))?;
+    println!(out; "  as in the file {}", u8::from(output.as_slice() == bytes))?;
+    let mut short = vec![in alloc; OUTPUT_BEFORE; bytes.len().saturating_sub(1)]?;
+    println!(out; "  a byte short {}", write_lent(words, trace, &mut short))?;
+    println!(out; "  unlike before {}", unlike(&short, OUTPUT_BEFORE))
 }
 
-fn read_without(out: &impl Print, bytes: &[u8]) -> io::Result<()> {
-    let mut none = [0u8; 0];
-    read_lent(out, b" bytes, without a trace ", bytes, &mut none)?;
-    Ok(())
-}
-
-fn show_file(
-    out: &impl Print,
-    bytes: &[u8],
-    trace: &mut [u8],
-    output: &mut [u8],
-) -> io::Result<()> {
-    say(out, b": ", bytes.len() as u64)?;
-    read_without(out, bytes)?;
-    let reading = read_lent(out, b"  with one ", bytes, trace)?;
-    let words = reading.words;
-    say_word(out, b"  trace ", sum_of(trace))?;
-    end_line(out)?;
+fn show_file(out: &impl Print, alloc: Global, bytes: &[u8]) -> io::Result<()> {
+    let mut trace = vec![in alloc; TRACE_BEFORE; TRACE_BYTES]?;
+    print!(out; ": {}", bytes.len())?;
+    read_lent(out, alloc, " bytes, without a trace ", bytes, &mut [])?;
+    let reading = read_lent(out, alloc, "  with one ", bytes, &mut trace)?;
+    println!(out; "  trace {:08x}", sum_of(&trace))?;
     if reading.answer == 0 {
-        write_back(out, &words, trace, bytes, output)?;
+        write_back(out, alloc, &reading.words, &trace, bytes)?;
     }
     Ok(())
 }
 
-// The file is read into `bytes`.
-fn next_file(
-    rt: &(impl Files + Print),
-    name: &str,
-    bytes: &mut [u8],
-    trace: &mut [u8],
-    output: &mut [u8],
-) -> io::Result<()> {
-    rt.write_all(name.as_bytes())?;
-    let mut file = fs::open(rt, name)?;
-    let size = read_full(&mut file, bytes)?;
-    show_file(rt, &bytes[..size], trace, output)
-}
-
-pub fn files(rt: &(impl Alloc + Env + Files + Print)) -> io::Result<()> {
-    let mut bytes = [0u8; FILE_BYTES];
-    let mut trace = [0u8; TRACE_BYTES];
-    let mut output = [0u8; FILE_BYTES];
+pub fn files(rt: &(impl AllocGlobal + Env + Files + Print)) -> io::Result<()> {
     for name in env::args(rt)?.skip(1) {
-        next_file(rt, name.as_str(), &mut bytes, &mut trace, &mut output)?;
+        print!(rt; "{name}")?;
+        let bytes = fs::read(rt, name.as_str())?;
+        show_file(rt, rt.alloc(), &bytes)?;
     }
     Ok(())
 }

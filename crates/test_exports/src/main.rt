@@ -8,15 +8,19 @@ mod runs;
 mod show;
 
 use std::io;
-use test_support::next;
+use test_support::{Listed, read_input};
 
 fn main(rt: HostRuntime) -> io::Result<()> {
-    let mut reader = rt.stdin();
-    let count = next(&mut reader)?;
-    runs::runs(&rt, &mut reader, count)?;
-    let count = next(&mut reader)?;
-    records::records(&rt, &mut reader, false, count)?;
-    let count = next(&mut reader)?;
-    records::records(&rt, &mut reader, true, count)?;
+    let bytes = read_input(&rt)?;
+    let mut list = Listed { left: &bytes };
+    for _ in 0..list.number() {
+        runs::next_run(&rt, rt.alloc(), &mut list)?;
+    }
+    for _ in 0..list.number() {
+        records::next_reading(&rt, rt.alloc(), &mut list)?;
+    }
+    for _ in 0..list.number() {
+        records::next_writing(&rt, rt.alloc(), &mut list)?;
+    }
     files::files(&rt)
 }

@@ -1,11 +1,11 @@
 // The lists of records that are read, and of outcomes that are written.
 use super::show::{
-    OUTCOME_WORDS, OUTPUT_BEFORE, TRACE_BEFORE, WORD_BEFORE, WRITTEN_BEFORE, next_part, say_answer,
-    say_bytes, say_fields, say_words,
+    OUTCOME_WORDS, OUTPUT_BEFORE, TRACE_BEFORE, WORD_BEFORE, WRITTEN_BEFORE, Written, report_bytes,
+    report_fields, report_words,
 };
+use std::alloc::Global;
 use std::io;
-use std::io::Read;
-use test_support::{end_line, fill, next, next_bytes, say, say_next};
+use test_support::Listed;
 
 const LENT_BYTES: usize = 1_000;
 
@@ -19,109 +19,50 @@ pub struct Reading {
 // Reads a record, and prints the answer and the words, also by name where they were written.
 pub fn read_lent(
     out: &impl Print,
-    name: &[u8],
+    alloc: Global,
+    name: &str,
     bytes: &[u8],
     trace: &mut [u8],
 ) -> io::Result<Reading> {
     let mut words = [WORD_BEFORE; OUTCOME_WORDS];
-    fill(trace, TRACE_BEFORE);
     let answer = lane_exports::lane_read_record(bytes, trace, &mut words);
-    say(out, name, answer as u64)?;
-    end_line(out)?;
+    println!(out; "{name}{answer}")?;
     if answer == 0 {
-        say_fields(out, &words)?;
+        report_fields(out, &words)?;
     }
-    say_words(out, &words)?;
+    report_words(out, alloc, &words)?;
     Ok(Reading { answer, words })
 }
 
 // The next case: name, the trace's size, the bytes.
-fn next_reading<R: Read>(
-    out: &impl Print,
-    reader: &mut R,
-    bytes: &mut [u8],
-    trace: &mut [u8],
-) -> io::Result<()> {
-    say_next(out, reader)?;
-    let trace = next_part(reader, trace)?;
-    let size = next_bytes(reader, bytes)?;
-    read_lent(out, b": ", &bytes[..size], trace)?;
-    say_bytes(out, b"  trace", trace)
+pub fn next_reading(out: &impl Print, alloc: Global, list: &mut Listed) -> io::Result<()> {
+    out.write_all(list.bytes(64))?;
+    let mut trace = vec![in alloc; TRACE_BEFORE; list.size(LENT_BYTES)]?;
+    read_lent(out, alloc, ": ", list.bytes(LENT_BYTES), &mut trace)?;
+    report_bytes(out, "  trace", &trace)
 }
 
-fn next_words<R: Read>(reader: &mut R) -> io::Result<[u32; OUTCOME_WORDS]> {
+fn next_words(list: &mut Listed) -> [u32; OUTCOME_WORDS] {
     let mut words = [0u32; OUTCOME_WORDS];
-    for k in 0..OUTCOME_WORDS {
-        words[k] = next(reader)?;
+    for word in words.iter_mut() {
+        *word = list.number();
     }
-    Ok(words)
+    words
 }
 
-// Writes an outcome's record, and prints the answer and the count.
-pub fn write_lent(
-    out: &impl Print,
-    name: &[u8],
-    words: &[u32; OUTCOME_WORDS],
-    trace: &[u8],
-    output: &mut [u8],
-) -> io::Result<()> {
-    let mut written: u64 = WRITTEN_BEFORE;
-    fill(output, OUTPUT_BEFORE);
-    let answer = lane_exports::lane_write_record(words, trace, output, &mut written);
-    say_answer(out, name, answer, written)
+// Writes an outcome's record.
+pub fn write_lent(words: &[u32; OUTCOME_WORDS], trace: &[u8], output: &mut [u8]) -> Written {
+    let mut count = WRITTEN_BEFORE;
+    let answer = lane_exports::lane_write_record(words, trace, output, &mut count);
+    Written { answer, count }
 }
 
 // The next case: name, words, the output's size, the trace's bytes.
-fn next_writing<R: Read>(
-    out: &impl Print,
-    reader: &mut R,
-    trace: &mut [u8],
-    output: &mut [u8],
-) -> io::Result<()> {
-    say_next(out, reader)?;
-    let words = next_words(reader)?;
-    let output = next_part(reader, output)?;
-    let size = next_bytes(reader, trace)?;
-    write_lent(out, b": ", &words, &trace[..size], output)?;
-    say_bytes(out, b"  output", output)
-}
-
-fn next_case<R: Read>(
-    out: &impl Print,
-    reader: &mut R,
-    writes: bool,
-    given: &mut [u8],
-    lent: &mut [u8],
-) -> io::Result<()> {
-    if writes {
-        next_writing(out, reader, given, lent)
-    } else {
-        next_reading(out, reader, given, lent)
-    }
-}
-
-fn cases<R: Read>(
-    out: &impl Print,
-    reader: &mut R,
-    writes: bool,
-    count: u32,
-    given: &mut [u8],
-    lent: &mut [u8],
-) -> io::Result<()> {
-    for _ in 0..count {
-        next_case(out, reader, writes, given, lent)?;
-    }
-    Ok(())
-}
-
-// A list of outcomes that are written, or of records that are read.
-pub fn records<R: Read>(
-    out: &impl Print,
-    reader: &mut R,
-    writes: bool,
-    count: u32,
-) -> io::Result<()> {
-    let mut given = [0u8; LENT_BYTES];
-    let mut lent = [0u8; LENT_BYTES];
-    cases(out, reader, writes, count, &mut given, &mut lent)
+pub fn next_writing(out: &impl Print, alloc: Global, list: &mut Listed) -> io::Result<()> {
+    out.write_all(list.bytes(64))?;
+    let words = next_words(list);
+    let mut output = vec![in alloc; OUTPUT_BEFORE; list.size(LENT_BYTES)]?;
+    let trace = list.bytes(LENT_BYTES);
+    println!(out; ": {}", write_lent(&words, trace, &mut output))?;
+    report_bytes(out, "  output", &output)
 }

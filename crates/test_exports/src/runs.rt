@@ -1,14 +1,12 @@
 // The list of runs: five functions, whose outcome is a record.
 use super::show::{
-    OUTPUT_BEFORE, ROWS_BEFORE, TRACE_BEFORE, WRITTEN_BEFORE, next_part, say_answer, say_bytes,
+    OUTPUT_BEFORE, ROWS_BEFORE, TRACE_BEFORE, WRITTEN_BEFORE, Written, report_bytes,
 };
-use lane_library::RunAnswer;
-use lane_record::WriteAnswer;
 use lane_word::InputRange;
 use predicate_semantics::{Rv32Program, Rv32SymbolLayout};
+use std::alloc::{AllocError, Global};
 use std::io;
-use std::io::Read;
-use test_support::{fill, next, next_bytes, next_size, say_next};
+use test_support::Listed;
 
 // A byte more than the largest image.
 const IMAGE_BYTES: usize = 1_048_577;
@@ -19,221 +17,179 @@ const TRACE_BYTES: usize = 1_000;
 
 const OUTPUT_BYTES: usize = 1_000;
 
+// What is called: one of C's functions, or the library's own.
+#[derive(Clone, Copy)]
+enum Function {
+    Run,
+    RunImage,
+    RunRange,
+    RunWithPlain,
+    Library,
+}
+
 // Which function is called, and the numbers that it is given.
 #[derive(Clone, Copy)]
 struct Call {
-    function: u32,
+    function: Function,
     symbols: Rv32SymbolLayout,
     range: InputRange,
 }
 
-fn next_symbols<R: Read>(reader: &mut R) -> io::Result<Rv32SymbolLayout> {
-    let entry = next(reader)?;
-    let event_count = next(reader)?;
-    let events = next(reader)?;
-    Ok(Rv32SymbolLayout {
+// What is lent to a call. `image` is the whole input for lane_run.
+#[derive(Drop)]
+struct Lent {
+    image: Vec<u8>,
+    rows: Vec<u8>,
+    trace: Vec<u8>,
+    output: Vec<u8>,
+}
+
+impl From<u32> for Function {
+    fn from(number: u32) -> Function {
+        match number {
+            0 => Function::Run,
+            1 => Function::RunImage,
+            2 => Function::RunRange,
+            3 => Function::RunWithPlain,
+            _ => Function::Library,
+        }
+    }
+}
+
+fn next_symbols(list: &mut Listed) -> Rv32SymbolLayout {
+    let entry = list.number();
+    let event_count = list.number();
+    let events = list.number();
+    Rv32SymbolLayout {
         entry,
         event_count,
         events,
-    })
+    }
 }
 
-fn next_input<R: Read>(reader: &mut R) -> io::Result<u8> {
-    Ok((next(reader)? % 256) as u8)
-}
-
-fn next_call<R: Read>(reader: &mut R) -> io::Result<Call> {
-    let function = next(reader)?;
-    let symbols = next_symbols(reader)?;
-    let first = next_input(reader)?;
-    let last = next_input(reader)?;
+fn next_call(list: &mut Listed) -> Call {
+    let function = Function::from(list.number());
+    let symbols = next_symbols(list);
+    let first = (list.number() % 256) as u8;
+    let last = (list.number() % 256) as u8;
     let range = InputRange { first, last };
-    Ok(Call {
+    Call {
         function,
         symbols,
         range,
-    })
+    }
 }
 
 // Zeros, with bytes at the start and bytes at a place that the list names.
-fn next_image<R: Read>(reader: &mut R, image: &mut [u8]) -> io::Result<()> {
-    fill(image, 0);
-    next_bytes(reader, image)?;
-    let at = next_size(reader, image.len())?;
-    next_bytes(reader, &mut image[at..])?;
-    Ok(())
+fn next_image(alloc: Global, list: &mut Listed) -> Result<Vec<u8>, AllocError> {
+    let size = list.size(IMAGE_BYTES);
+    let mut image = vec![in alloc; 0; size]?;
+    let start = list.bytes(size);
+    image[..start.len()].copy_from_slice(start);
+    let at = list.size(size);
+    let later = list.bytes(size - at);
+    image[at..at + later.len()].copy_from_slice(later);
+    Ok(image)
 }
 
-// The writer's answer as document 01's number; a refusal has no count.
-fn wrote(answer: WriteAnswer, written: &mut u64) -> u32 {
-    match answer {
-        WriteAnswer::Written(n) => {
-            *written = n as u64;
+fn next_lent(alloc: Global, list: &mut Listed) -> Result<Lent, AllocError> {
+    let rows = vec![in alloc; ROWS_BEFORE; list.size(ROWS_BYTES)]?;
+    let trace = vec![in alloc; TRACE_BEFORE; list.size(TRACE_BYTES)]?;
+    let output = vec![in alloc; OUTPUT_BEFORE; list.size(OUTPUT_BYTES)]?;
+    let image = next_image(alloc, list)?;
+    Ok(Lent {
+        image,
+        rows,
+        trace,
+        output,
+    })
+}
+
+// One of the functions that get a range, which have the same arguments.
+fn over_range<F>(function: F, call: Call, lent: &mut Lent, count: &mut u64) -> u32
+where
+    F: Fn(&[u8], u32, u32, u32, u8, u8, &mut [u8], &mut [u8], &mut [u8], &mut u64) -> u32 + Drop,
+    requires { F.IsAlwaysCallable function }
+{
+    function(
+        &lent.image,
+        call.symbols.entry,
+        call.symbols.event_count,
+        call.symbols.events,
+        call.range.first,
+        call.range.last,
+        &mut lent.rows,
+        &mut lent.trace,
+        &mut lent.output,
+        count,
+    )
+}
+
+fn over_invalid_channels(call: Call, lent: &mut Lent, count: &mut u64) -> u32 {
+    lane_exports::lane_run_image(
+        &lent.image,
+        call.symbols.entry,
+        call.symbols.event_count,
+        call.symbols.events,
+        &mut lent.rows,
+        &mut lent.trace,
+        &mut lent.output,
+        count,
+    )
+}
+
+// The library's own function; a refusal has no count.
+fn library(call: Call, lent: &mut Lent, count: &mut u64) -> u32 {
+    let program = Rv32Program {
+        symbols: call.symbols,
+    };
+    match lane_library::run_with(
+        &lent.image,
+        program,
+        call.range,
+        &mut lent.rows,
+        &mut lent.trace,
+        &mut lent.output,
+    ) {
+        Ok(n) => {
+            *count = n as u64;
             0
         }
-        WriteAnswer::RulesBroken => {
-            *written = 0;
-            15
-        }
-        WriteAnswer::OutputTooShort => {
-            *written = 0;
-            16
+        Err(error) => {
+            *count = 0;
+            u32::from(error.number())
         }
     }
 }
 
-fn ran(answer: RunAnswer, written: &mut u64) -> u32 {
-    match answer {
-        RunAnswer::Recorded(recorded) => wrote(recorded, written),
-        RunAnswer::Refused(error) => {
-            *written = 0;
-            error.number() as u32
+fn run(call: Call, lent: &mut Lent) -> Written {
+    let mut count = WRITTEN_BEFORE;
+    let answer = match call.function {
+        Function::Run => lane_exports::lane_run(
+            &lent.image,
+            &mut lent.rows,
+            &mut lent.trace,
+            &mut lent.output,
+            &mut count,
+        ),
+        Function::RunImage => over_invalid_channels(call, lent, &mut count),
+        Function::RunRange => over_range(lane_exports::lane_run_range, call, lent, &mut count),
+        Function::RunWithPlain => {
+            over_range(lane_exports::lane_run_with_plain, call, lent, &mut count)
         }
-    }
+        Function::Library => library(call, lent, &mut count),
+    };
+    Written { answer, count }
 }
 
-// The library's own function.
-fn library(
-    call: Call,
-    image: &[u8],
-    rows: &mut [u8],
-    trace: &mut [u8],
-    output: &mut [u8],
-    written: &mut u64,
-) -> u32 {
-    let symbols = call.symbols;
-    let range = call.range;
-    let program = Rv32Program { symbols };
-    let answer = lane_library::run_with(image, program, range, rows, trace, output);
-    ran(answer, written)
-}
-
-// 0 to 3 are C's functions.
-fn answer_of(
-    call: Call,
-    image: &[u8],
-    rows: &mut [u8],
-    trace: &mut [u8],
-    output: &mut [u8],
-    written: &mut u64,
-) -> u32 {
-    let symbols = call.symbols;
-    let range = call.range;
-    let function = call.function;
-    match function {
-        0 => lane_exports::lane_run(image, rows, trace, output, written),
-        1 => lane_exports::lane_run_image(
-            image,
-            symbols.entry,
-            symbols.event_count,
-            symbols.events,
-            rows,
-            trace,
-            output,
-            written,
-        ),
-        2 => lane_exports::lane_run_range(
-            image,
-            symbols.entry,
-            symbols.event_count,
-            symbols.events,
-            range.first,
-            range.last,
-            rows,
-            trace,
-            output,
-            written,
-        ),
-        3 => lane_exports::lane_run_with_plain(
-            image,
-            symbols.entry,
-            symbols.event_count,
-            symbols.events,
-            range.first,
-            range.last,
-            rows,
-            trace,
-            output,
-            written,
-        ),
-        _ => library(call, image, rows, trace, output, written),
-    }
-}
-
-fn prepare(rows: &mut [u8], trace: &mut [u8], output: &mut [u8]) {
-    fill(rows, ROWS_BEFORE);
-    fill(trace, TRACE_BEFORE);
-    fill(output, OUTPUT_BEFORE);
-}
-
-fn say_lent(out: &impl Print, rows: &[u8], trace: &[u8], output: &[u8]) -> io::Result<()> {
-    say_bytes(out, b"  rows", rows)?;
-    say_bytes(out, b"  trace", trace)?;
-    say_bytes(out, b"  output", output)
-}
-
-fn run_lent(
-    out: &impl Print,
-    call: Call,
-    image: &[u8],
-    rows: &mut [u8],
-    trace: &mut [u8],
-    output: &mut [u8],
-) -> io::Result<()> {
-    let mut written: u64 = WRITTEN_BEFORE;
-    prepare(rows, trace, output);
-    let answer = answer_of(call, image, rows, trace, output, &mut written);
-    say_answer(out, b": ", answer, written)?;
-    say_lent(out, rows, trace, output)
-}
-
-// The next case: name, function, symbols, range, the bytes that are lent, the image's, and what it holds. `image` is the whole input for
-// lane_run.
-fn next_run<R: Read>(
-    out: &impl Print,
-    reader: &mut R,
-    image: &mut [u8],
-    rows: &mut [u8],
-    trace: &mut [u8],
-    output: &mut [u8],
-) -> io::Result<()> {
-    say_next(out, reader)?;
-    let call = next_call(reader)?;
-    let rows = next_part(reader, rows)?;
-    let trace = next_part(reader, trace)?;
-    let output = next_part(reader, output)?;
-    let image = next_part(reader, image)?;
-    next_image(reader, image)?;
-    run_lent(out, call, image, rows, trace, output)
-}
-
-fn runs_in<R: Read>(
-    out: &impl Print,
-    reader: &mut R,
-    count: u32,
-    image: &mut [u8],
-    rows: &mut [u8],
-    trace: &mut [u8],
-    output: &mut [u8],
-) -> io::Result<()> {
-    for _ in 0..count {
-        next_run(out, reader, image, rows, trace, output)?;
-    }
-    Ok(())
-}
-
-pub fn runs<R: Read>(out: &impl Print, reader: &mut R, count: u32) -> io::Result<()> {
-    let mut image = [0u8; IMAGE_BYTES];
-    let mut rows = [0u8; ROWS_BYTES];
-    let mut trace = [0u8; TRACE_BYTES];
-    let mut output = [0u8; OUTPUT_BYTES];
-    runs_in(
-        out,
-        reader,
-        count,
-        &mut image,
-        &mut rows,
-        &mut trace,
-        &mut output,
-    )
+// The next case: name, function, symbols, range, the bytes that are lent, the image's, and what it holds.
+pub fn next_run(out: &impl Print, alloc: Global, list: &mut Listed) -> io::Result<()> {
+    let name = list.bytes(64);
+    let call = next_call(list);
+    let mut lent = next_lent(alloc, list)?;
+    out.write_all(name)?;
+    println!(out; ": {}", run(call, &mut lent))?;
+    report_bytes(out, "  rows", &lent.rows)?;
+    report_bytes(out, "  trace", &lent.trace)?;
+    report_bytes(out, "  output", &lent.output)
 }

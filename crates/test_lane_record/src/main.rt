@@ -1,18 +1,18 @@
-// Runs the record's reader and writer on document 01's record, on records that break one rule each, on records of other ranges, and on
-// lent memory of every length around the border, and prints what they answer: 0 for done, else document 01's number.
+// Runs the record's reader and writer on an example of a record, on records that break one rule each, on records of other ranges, and on
+// lent memory of every length around the border, and prints what they answer: 0 for done, else the number of docs/REFUSALS.md.
 #![tactic(auto)]
 
-ghost use Rattle.std.specs.Prelude.{◌+◌, ◌≤◌};
+ghost use Rattle.std.specs.Iterator.{IsFinite};
 
-use lane_record::{ReadAnswer, WriteAnswer};
-use little_endian::{get_u8, get_u16, get_u32, put_u8, put_u16, put_u32};
+use little_endian::{get, put};
 use predicate_answer::{
-    CompiledMmioEvent, PredicateTransducerExecution, RecordAnswer, RecordOutcome, RecordRefusal,
+    CompiledMmioEvent, PredicateTransducerExecution, RecordOutcome, RecordRefusal,
 };
+use std::alloc::{AllocError, Global};
 use std::io;
-use test_support::{end_line, say, unlike};
+use test_support::unlike;
 
-// Document 01's record, 49 bytes, and a byte more.
+// The example, 49 bytes, and a byte more.
 const EXAMPLE: [u8; 50] = [
     0x01, 0x06, 0xFA, 0x00, 0x01, 0x00, 0x00, 0x00, 0x02, 0x00, 0x00, 0x00, 0xF4, 0x01, 0x00, 0x00,
     0x04, 0x00, 0x00, 0x00, 0x00, 0x03, 0x00, 0x00, 0x00, 0x80, 0x13, 0x05, 0x10, 0x00, 0x02, 0x02,
@@ -23,61 +23,64 @@ const EXAMPLE: [u8; 50] = [
 // Refusal 5, with no role, after 2 steps.
 const REFUSED: [u8; 7] = [0x7F, 0x05, 0x00, 0x02, 0x00, 0x00, 0x00];
 
-// A number of a record changed: its place, whether it has four bytes and not one, and what it becomes.
+// A number of a record changed, at its place.
 #[derive(Clone, Copy)]
-struct Edit(usize, bool, u32);
+enum Edit {
+    Byte(usize, u8),
+    Word(usize, u32),
+}
 
-// Of document 01's record; each of the first twelve breaks a rule, the others none.
+// Of the example; each of the first twelve breaks a rule, the others none.
 const EDITS: [Edit; 18] = [
     // first input, lanes, lane operations
-    Edit(1, false, 7),
-    Edit(2, false, 251),
-    Edit(12, true, 501),
+    Edit::Byte(1, 7),
+    Edit::Byte(2, 251),
+    Edit::Word(12, 501),
     // written bytes below and above their bounds
-    Edit(16, true, 3),
-    Edit(16, true, 2_097_152),
+    Edit::Word(16, 3),
+    Edit::Word(16, 2_097_152),
     // an event counted that is not there; written, it is an event of zeros
-    Edit(20, false, 1),
+    Edit::Byte(20, 1),
     // the kind of a step, which a result has not
-    Edit(21, false, 2),
+    Edit::Byte(21, 2),
     // lengths
-    Edit(30, false, 3),
-    Edit(44, false, 0),
+    Edit::Byte(30, 3),
+    Edit::Byte(44, 0),
     // next counters: unlike the following one, and unlike stop
-    Edit(31, true, 0x8000_0004),
-    Edit(36, true, 0x8000_0004),
-    Edit(45, true, 0x801F_FFF8),
+    Edit::Word(31, 0x8000_0004),
+    Edit::Word(36, 0x8000_0004),
+    Edit::Word(45, 0x801F_FFF8),
     // return value, written bytes at their upper bound, a word, a length of 4, and the first counter
-    Edit(4, true, 0xFFFF_FFFF),
-    Edit(16, true, 2_097_151),
-    Edit(26, true, 0),
-    Edit(30, false, 4),
-    Edit(44, false, 4),
-    Edit(22, true, 1),
+    Edit::Word(4, 0xFFFF_FFFF),
+    Edit::Word(16, 2_097_151),
+    Edit::Word(26, 0),
+    Edit::Byte(30, 4),
+    Edit::Byte(44, 4),
+    Edit::Word(22, 1),
 ];
 
 // Of the refused record; each of the first nine breaks one rule, the others none. Four bytes at 1 are refusal, role and steps.
 const REFUSAL_EDITS: [Edit; 13] = [
     // refusal 0, and those above 14, which no record holds
-    Edit(1, false, 0),
-    Edit(1, false, 15),
-    Edit(1, false, 16),
-    Edit(1, false, 17),
-    Edit(1, false, 255),
+    Edit::Byte(1, 0),
+    Edit::Byte(1, 15),
+    Edit::Byte(1, 16),
+    Edit::Byte(1, 17),
+    Edit::Byte(1, 255),
     // a role for 5, none for 6, and one above 10
-    Edit(2, false, 1),
-    Edit(1, false, 6),
-    Edit(1, true, 0x0002_0B07),
+    Edit::Byte(2, 1),
+    Edit::Byte(1, 6),
+    Edit::Word(1, 0x0002_0B07),
     // more steps than a run has
-    Edit(3, true, 1_000_001),
+    Edit::Word(3, 1_000_001),
     // 6 with role 1, 7 with role 10, refusal 14, and as many steps as a run has
-    Edit(1, true, 0x0002_0106),
-    Edit(1, true, 0x0002_0A07),
-    Edit(1, false, 14),
-    Edit(3, true, 1_000_000),
+    Edit::Word(1, 0x0002_0106),
+    Edit::Word(1, 0x0002_0A07),
+    Edit::Byte(1, 14),
+    Edit::Word(3, 1_000_000),
 ];
 
-// First input, lanes, steps and lane operations, in document 01's record; without steps it ends with its heading.
+// First input, lanes, steps and lane operations, in the example; without steps it ends with its heading.
 #[derive(Clone, Copy)]
 struct Heading(u8, u16, u32, u32);
 
@@ -122,116 +125,78 @@ const HEADINGS: [Heading; 28] = [
 
 const NO_STEPS: Heading = Heading(7, 1, 0, 0);
 
-// What a series of answers goes over: edits, first bytes or headings of a record, or lengths of what is lent.
-#[derive(Clone, Copy)]
-enum Series {
-    EditRead,
-    EditWritten,
-    EditWithoutOutput,
-    RefusalRead,
-    RefusalWritten,
-    RefusalShort,
-    HeadingRead,
-    HeadingWritten,
-    HeadingWithoutOutput,
-    Kind,
-    RefusalKind,
-    Bytes,
-    Trace,
-    TraceWritten,
-    Output,
-    NoStepsBytes,
-    NoStepsOutput,
-}
-
-fn tell(out: &impl Print, n: u64) -> io::Result<()> {
-    say(out, b" ", n)
-}
-
-fn tell_byte(out: &impl Print, b: u8) -> io::Result<()> {
-    tell(out, b as u64)
-}
-
-fn read_number(answer: ReadAnswer) -> u64 {
-    match answer {
-        ReadAnswer::Read => 0,
-        ReadAnswer::RulesBroken => 15,
-        ReadAnswer::TraceTooShort => 14,
+impl Edit {
+    fn apply(self, bytes: &mut [u8]) {
+        match self {
+            Edit::Byte(at, x) => put(bytes, at, x),
+            Edit::Word(at, x) => put(bytes, at, x),
+        }
     }
 }
 
-fn write_number(answer: WriteAnswer) -> u64 {
-    match answer {
-        WriteAnswer::Written(_) => 0,
-        WriteAnswer::RulesBroken => 15,
-        WriteAnswer::OutputTooShort => 16,
+impl Heading {
+    // The example with this heading.
+    fn example(self) -> [u8; 50] {
+        let Heading(first_input, lanes, steps, operations) = self;
+        let mut bytes = EXAMPLE;
+        put(&mut bytes, 1, first_input);
+        put(&mut bytes, 2, lanes);
+        put(&mut bytes, 8, steps);
+        put(&mut bytes, 12, operations);
+        bytes
+    }
+
+    fn has_steps(self) -> bool {
+        self.2 != 0
+    }
+
+    fn record_bytes(self) -> usize {
+        if self.has_steps() { 49 } else { 21 }
+    }
+
+    // The trace that is lent has the two entries of the record, or none.
+    fn entry_bytes(self) -> usize {
+        if self.has_steps() { 26 } else { 0 }
     }
 }
 
-// The reader's answer to the first n bytes, with the first m bytes of the trace lent.
-fn read(bytes: &[u8], n: usize, trace: &mut [u8], m: usize) -> u64 {
-    if bytes.len() < n {
-        return 99;
-    }
-    if trace.len() < m {
-        return 99;
-    }
-    let reading = lane_record::read_record(&bytes[..n], &mut trace[..m]);
-    let answer = reading.answer;
-    read_number(answer)
+// The first n bytes, or all where there are fewer.
+fn first(bytes: &[u8], n: usize) -> &[u8] {
+    &bytes[..n.min(bytes.len())]
 }
 
-// The writer's answer with the first m bytes of the trace, where the first n bytes of the output are lent.
-fn write(res: RecordOutcome, trace: &[u8], m: usize, output: &mut [u8], n: usize) -> u64 {
-    if trace.len() < m {
-        return 99;
-    }
-    if output.len() < n {
-        return 99;
-    }
-    let answer = lane_record::write_record(res, &trace[..m], &mut output[..n]);
-    write_number(answer)
+fn first_mut(bytes: &mut [u8], n: usize) -> &mut [u8] {
+    let n = n.min(bytes.len());
+    &mut bytes[..n]
 }
 
-// n bytes from one place to another; what lies outside is 0, or is not written.
-fn copy(target: &mut [u8], to: usize, source: &[u8], from: usize, n: usize)
-    requires { (to + n ≤ 65536) × (from + n ≤ 65536) }
-{
-    let mut k: usize = 0;
-    while k < n {
-        put_u8(target, to + k, get_u8(source, from + k));
-        k += 1;
+fn read(bytes: &[u8], trace: &mut [u8]) -> u8 {
+    match lane_record::read_record(bytes, trace) {
+        Ok(_) => 0,
+        Err(error) => error.number(),
     }
 }
 
-fn change(bytes: &mut [u8], edit: Edit) {
-    if edit.1 {
-        put_u32(bytes, edit.0, edit.2);
-    } else {
-        put_u8(bytes, edit.0, (edit.2 % 256) as u8);
+fn write(outcome: RecordOutcome, trace: &[u8], output: &mut [u8]) -> u8 {
+    match lane_record::write_record(outcome, trace, output) {
+        Ok(_) => 0,
+        Err(error) => error.number(),
     }
 }
 
-fn put_heading(bytes: &mut [u8], heading: Heading) {
-    put_u8(bytes, 1, heading.0);
-    put_u16(bytes, 2, heading.1);
-    put_u32(bytes, 8, heading.2);
-    put_u32(bytes, 12, heading.3);
-}
-
-fn answer_of(bytes: &[u8]) -> RecordAnswer {
-    if get_u8(bytes, 0) == 0x7F {
-        return RecordAnswer::Refused(RecordRefusal {
-            number: get_u8(bytes, 1),
-            role: get_u8(bytes, 2),
-            steps: get_u32(bytes, 3),
+fn answer_of(bytes: &[u8]) -> Result<(), RecordRefusal> {
+    if get::<u8>(bytes, 0) == 0x7F {
+        return Err(RecordRefusal {
+            number: get(bytes, 1),
+            role: get(bytes, 2),
+            steps: get(bytes, 3),
         });
     }
-    RecordAnswer::Accepted
+    Ok(())
 }
 
-// The result that bytes would be the record of, whether or not the rules hold; its events are zeros.
-fn result_of(bytes: &[u8]) -> RecordOutcome {
+// The outcome that bytes would be the record of, whether or not the rules hold; its events are zeros.
+fn outcome_of(bytes: &[u8]) -> RecordOutcome {
     let none = CompiledMmioEvent {
         operation: 0,
         offset: 0,
@@ -239,303 +204,258 @@ fn result_of(bytes: &[u8]) -> RecordOutcome {
         location: 0,
     };
     let execution = PredicateTransducerExecution {
-        first_input: get_u8(bytes, 1),
-        lane_count: get_u16(bytes, 2),
-        return_value: get_u32(bytes, 4),
-        symbolic_transitions: get_u32(bytes, 8),
-        lane_value_operations: get_u32(bytes, 12),
-        sparse_memory_bytes: get_u32(bytes, 16),
-        event_count: get_u8(bytes, 20),
+        first_input: get(bytes, 1),
+        lane_count: get(bytes, 2),
+        return_value: get(bytes, 4),
+        symbolic_transitions: get(bytes, 8),
+        lane_value_operations: get(bytes, 12),
+        sparse_memory_bytes: get(bytes, 16),
+        event_count: get(bytes, 20),
     };
-    let events = [none; 32];
     RecordOutcome {
         answer: answer_of(bytes),
-        execution: execution,
-        events: events,
+        execution,
+        events: [none; 32],
     }
 }
 
-// Bytes as a result and the first m bytes of its trace, written to the first n bytes of an output.
-fn write_bytes(bytes: &[u8], m: usize, n: usize) -> u64 {
+// The entries of the example's two steps, each without its kind.
+fn trace_of(bytes: &[u8; 50]) -> [u8; 26] {
     let mut trace = [0u8; 26];
+    trace[..13].copy_from_slice(&bytes[22..35]);
+    trace[13..].copy_from_slice(&bytes[36..49]);
+    trace
+}
+
+// The example's bytes as an outcome and the first m bytes of its trace, written to the first n bytes of an output.
+fn write_bytes(bytes: &[u8; 50], m: usize, n: usize) -> u8 {
+    let trace = trace_of(bytes);
     let mut output = [0u8; 80];
-    copy(&mut trace, 0, bytes, 22, 13);
-    copy(&mut trace, 13, bytes, 36, 13);
-    write(result_of(bytes), &trace, m, &mut output, n)
+    write(
+        outcome_of(bytes),
+        first(&trace, m),
+        first_mut(&mut output, n),
+    )
 }
 
-// Document 01's record after an edit, read and written.
-fn read_edited(edit: Edit) -> u64 {
+// The example after an edit, read and written.
+fn read_edited(edit: Edit) -> u8 {
     let mut bytes = EXAMPLE;
-    let mut trace = [0u8; 26];
-    change(&mut bytes, edit);
-    read(&bytes, 49, &mut trace, 26)
+    edit.apply(&mut bytes);
+    read(first(&bytes, 49), &mut [0; 26])
 }
 
-fn write_edited(edit: Edit, m: usize, n: usize) -> u64 {
+fn write_edited(edit: Edit, n: usize) -> u8 {
     let mut bytes = EXAMPLE;
-    change(&mut bytes, edit);
-    write_bytes(&bytes, m, n)
+    edit.apply(&mut bytes);
+    write_bytes(&bytes, 26, n)
 }
 
-fn read_refusal(edit: Edit) -> u64 {
+fn read_refusal(edit: Edit) -> u8 {
     let mut bytes = REFUSED;
-    let mut trace = [0u8; 26];
-    change(&mut bytes, edit);
-    read(&bytes, 7, &mut trace, 0)
+    edit.apply(&mut bytes);
+    read(&bytes, &mut [])
 }
 
-fn write_refusal(edit: Edit, n: usize) -> u64 {
+fn write_refusal(edit: Edit, n: usize) -> u8 {
     let mut bytes = REFUSED;
     let mut output = [0u8; 60];
-    change(&mut bytes, edit);
-    write(result_of(&bytes), b"", 0, &mut output, n)
+    edit.apply(&mut bytes);
+    write(outcome_of(&bytes), &[], first_mut(&mut output, n))
 }
 
-// The first n bytes of document 01's record with another heading, read; and written to the first n bytes of an output. The trace that is
-// lent has the two entries of the record, or none.
-fn read_heading(heading: Heading, n: usize) -> u64 {
-    let mut bytes = EXAMPLE;
+// The first n bytes of the example with another heading, read; and written to the first n bytes of an output.
+fn read_heading(heading: Heading, n: usize) -> u8 {
     let mut trace = [0u8; 26];
-    put_heading(&mut bytes, heading);
-    read(&bytes, n, &mut trace, entries(heading))
+    let trace = first_mut(&mut trace, heading.entry_bytes());
+    read(first(&heading.example(), n), trace)
 }
 
-fn write_heading(heading: Heading, n: usize) -> u64 {
-    let mut bytes = EXAMPLE;
-    put_heading(&mut bytes, heading);
-    write_bytes(&bytes, entries(heading), n)
+fn write_heading(heading: Heading, n: usize) -> u8 {
+    write_bytes(&heading.example(), heading.entry_bytes(), n)
 }
 
-fn entries(heading: Heading) -> usize {
-    if heading.2 == 0 { 0 } else { 26 }
-}
-
-fn record_bytes(heading: Heading) -> usize {
-    if heading.2 == 0 { 21 } else { 49 }
-}
-
-fn heading_at(k: usize) -> Heading {
-    if k < 28 { HEADINGS[k] } else { NO_STEPS }
-}
-
-fn edit_at(k: usize) -> Edit {
-    if k < 18 { EDITS[k] } else { EDITS[17] }
-}
-
-fn refusal_edit_at(k: usize) -> Edit {
-    if k < 13 {
-        REFUSAL_EDITS[k]
-    } else {
-        REFUSAL_EDITS[12]
-    }
-}
-
-fn first_byte(k: usize) -> Edit {
-    Edit(0, false, (k % 256) as u32)
-}
-
-fn read_lent(n: usize, m: usize) -> u64 {
+fn read_lent(n: usize, m: usize) -> u8 {
     let mut trace = [0u8; 39];
-    read(&EXAMPLE, n, &mut trace, m)
+    read(first(&EXAMPLE, n), first_mut(&mut trace, m))
 }
 
-fn answer(series: Series, k: usize) -> u64 {
-    match series {
-        Series::EditRead => read_edited(edit_at(k)),
-        Series::EditWritten => write_edited(edit_at(k), 26, 80),
-        Series::EditWithoutOutput => write_edited(edit_at(k), 26, 0),
-        Series::RefusalRead => read_refusal(refusal_edit_at(k)),
-        Series::RefusalWritten => write_refusal(refusal_edit_at(k), 7),
-        Series::RefusalShort => write_refusal(refusal_edit_at(k), 6),
-        Series::HeadingRead => read_heading(heading_at(k), record_bytes(heading_at(k))),
-        Series::HeadingWritten => write_heading(heading_at(k), record_bytes(heading_at(k))),
-        Series::HeadingWithoutOutput => write_heading(heading_at(k), 0),
-        Series::Kind => read_edited(first_byte(k)),
-        Series::RefusalKind => read_refusal(first_byte(k)),
-        Series::Bytes => read_lent(k, 39),
-        Series::Trace => read_lent(49, k),
-        // these two have document 01's record itself, since its first byte is 1
-        Series::TraceWritten => write_edited(first_byte(1), k, 80),
-        Series::Output => write_edited(first_byte(1), 26, k),
-        Series::NoStepsBytes => read_heading(NO_STEPS, k),
-        Series::NoStepsOutput => write_heading(NO_STEPS, k),
+// A line of answers.
+fn answers<I: Iterator<Item = u8> + Drop>(
+    out: &impl Print,
+    name: &str,
+    answers: I,
+) -> io::Result<()>
+    requires can { I.can_next answers }
+    requires ends { IsFinite (I.remaining answers) }
+{
+    print!(out; "{name}:")?;
+    for answer in answers {
+        print!(out; " {answer}")?;
     }
-}
-
-fn answers(out: &impl Print, name: &[u8], series: Series, count: usize) -> io::Result<()> {
-    out.write_all(name)?;
-    for k in 0..count {
-        tell(out, answer(series, k))?;
-    }
-    end_line(out)
-}
-
-// How many of the 256 first bytes make a record.
-fn taken(series: Series) -> u64 {
-    let mut taken: u64 = 0;
-    let mut k: usize = 0;
-    while k < 256 {
-        if answer(series, k) == 0 {
-            taken += 1;
-        }
-        k += 1;
-    }
-    taken
-}
-
-fn compare(out: &impl Print, written: WriteAnswer, output: &[u8], bytes: &[u8]) -> io::Result<()> {
-    if let WriteAnswer::Written(n) = written {
-        tell(out, n as u64)?;
-        if n < output.len() {
-            tell(out, (&output[..n] == bytes) as u64)?;
-            tell_byte(out, output[n])?;
-        }
-    }
-    Ok(())
+    println!(out)
 }
 
 // Reads bytes and writes what was read, and prints the reader's answer, how many bytes were written, 1 if they are the same,
 // the byte after them, which was 85, and how many bytes after the steps' entries are not 170 as before.
-fn round_trip(out: &impl Print, bytes: &[u8]) -> io::Result<()> {
+fn round_trip(out: &impl Print, name: &str, bytes: &[u8]) -> io::Result<()> {
     let mut trace = [170u8; 39];
-    let mut output = [85u8; 640];
-    let reading = lane_record::read_record(bytes, &mut trace);
-    let read = reading.answer;
-    let outcome = reading.outcome;
-    let steps = outcome.execution.symbolic_transitions as usize;
-    tell(out, read_number(read))?;
-    compare(
-        out,
-        lane_record::write_record(outcome, &trace, &mut output),
-        &output,
-        bytes,
-    )?;
-    tell(out, unlike(&trace, steps * 13, 39, 170))?;
-    end_line(out)
+    match lane_record::read_record(bytes, &mut trace) {
+        Ok(outcome) => {
+            print!(out; "{name} 0")?;
+            write_back(out, outcome, &trace, bytes)?;
+            let entries = outcome.execution.symbolic_transitions as usize * 13;
+            println!(out; " {}", unlike(&trace[entries.min(39)..], 170))
+        }
+        Err(error) => println!(out; "{name} {} {}", error.number(), unlike(&trace, 170)),
+    }
 }
 
-fn round_trip_first(out: &impl Print, bytes: &[u8], n: usize) -> io::Result<()> {
-    if n <= bytes.len() {
-        round_trip(out, &bytes[..n])?;
+fn write_back(
+    out: &impl Print,
+    outcome: RecordOutcome,
+    trace: &[u8],
+    bytes: &[u8],
+) -> io::Result<()> {
+    let mut output = [85u8; 640];
+    if let Ok(n) = lane_record::write_record(outcome, trace, &mut output) {
+        print!(out; " {n}")?;
+        if n < output.len() {
+            print!(out; " {} {}", u8::from(&output[..n] == bytes), output[n])?;
+        }
     }
     Ok(())
 }
 
-fn put_events(bytes: &mut [u8], n: u8) {
-    let mut k: u8 = 0;
-    let mut at: usize = 21;
-    while k < n {
-        put_u8(bytes, at, 2);
-        put_u32(bytes, at + 9, k as u32);
-        k += 1;
-        at += 17;
+// The example with n events put into it.
+fn with_events(alloc: Global, n: u8) -> Result<Vec<u8>, AllocError> {
+    let mut bytes = Vec::from_slice(alloc, &EXAMPLE[..20])?;
+    bytes.push(n)?;
+    for k in 0..n {
+        bytes.extend_from_slice(&[2, 0, 0, 0, 0, 0, 0, 0, 0, k, 0, 0, 0, 0, 0, 0, 0])?;
     }
-}
-
-// Document 01's record with n events put into it.
-fn with_events(out: &impl Print, n: u8) -> io::Result<()> {
-    let mut bytes = [0u8; 640];
-    let steps = 21 + (n as usize) * 17;
-    copy(&mut bytes, 0, &EXAMPLE, 0, 21);
-    put_u8(&mut bytes, 20, n);
-    put_events(&mut bytes, n);
-    copy(&mut bytes, steps, &EXAMPLE, 21, 28);
-    tell(out, n as u64)?;
-    round_trip_first(out, &bytes, steps + 28)
-}
-
-// Document 01's record with another heading.
-fn with_heading(out: &impl Print, heading: Heading) -> io::Result<()> {
-    let mut bytes = EXAMPLE;
-    put_heading(&mut bytes, heading);
-    out.write_all(b"first input, lanes and steps:")?;
-    tell_byte(out, heading.0)?;
-    tell(out, heading.1 as u64)?;
-    tell(out, heading.2 as u64)?;
-    out.write_all(b":")?;
-    round_trip_first(out, &bytes, record_bytes(heading))
+    bytes.extend_from_slice(&EXAMPLE[21..49])?;
+    Ok(bytes)
 }
 
 fn edits(out: &impl Print) -> io::Result<()> {
-    answers(out, b"edited, read:", Series::EditRead, 18)?;
-    answers(out, b"edited, written:", Series::EditWritten, 18)?;
+    answers(out, "edited, read", EDITS.iter().map(|e| read_edited(*e)))?;
     answers(
         out,
-        b"edited, written with no output:",
-        Series::EditWithoutOutput,
-        18,
+        "edited, written",
+        EDITS.iter().map(|e| write_edited(*e, 80)),
     )?;
-    answers(out, b"edited refusal, read:", Series::RefusalRead, 13)?;
-    answers(out, b"edited refusal, written:", Series::RefusalWritten, 13)?;
     answers(
         out,
-        b"edited refusal, written with an output a byte short:",
-        Series::RefusalShort,
-        13,
+        "edited, written with no output",
+        EDITS.iter().map(|e| write_edited(*e, 0)),
+    )?;
+    answers(
+        out,
+        "edited refusal, read",
+        REFUSAL_EDITS.iter().map(|e| read_refusal(*e)),
+    )?;
+    answers(
+        out,
+        "edited refusal, written",
+        REFUSAL_EDITS.iter().map(|e| write_refusal(*e, 7)),
+    )?;
+    answers(
+        out,
+        "edited refusal, written with an output a byte short",
+        REFUSAL_EDITS.iter().map(|e| write_refusal(*e, 6)),
     )
 }
 
 fn headings(out: &impl Print) -> io::Result<()> {
-    answers(out, b"other headings, read:", Series::HeadingRead, 28)?;
-    answers(out, b"other headings, written:", Series::HeadingWritten, 28)?;
     answers(
         out,
-        b"other headings, written with no output:",
-        Series::HeadingWithoutOutput,
-        28,
-    )?;
-    with_heading(out, Heading(0, 256, 2, 512))?;
-    with_heading(out, Heading(12, 244, 2, 488))?;
-    with_heading(out, Heading(255, 1, 2, 2))?;
-    with_heading(out, NO_STEPS)
-}
-
-fn lengths(out: &impl Print) -> io::Result<()> {
-    answers(out, b"bytes read, from 0 on:", Series::Bytes, 51)?;
-    answers(
-        out,
-        b"trace lent to the reader, from 0 on:",
-        Series::Trace,
-        40,
+        "other headings, read",
+        HEADINGS.iter().map(|h| read_heading(*h, h.record_bytes())),
     )?;
     answers(
         out,
-        b"trace lent to the writer, from 0 on:",
-        Series::TraceWritten,
-        27,
-    )?;
-    answers(out, b"output lent, from 0 on:", Series::Output, 61)?;
-    answers(
-        out,
-        b"bytes read of a record without steps, from 0 on:",
-        Series::NoStepsBytes,
-        23,
+        "other headings, written",
+        HEADINGS.iter().map(|h| write_heading(*h, h.record_bytes())),
     )?;
     answers(
         out,
-        b"output lent to a record without steps, from 0 on:",
-        Series::NoStepsOutput,
-        23,
+        "other headings, written with no output",
+        HEADINGS.iter().map(|h| write_heading(*h, 0)),
     )
 }
 
+// The example with another heading, there and back.
+fn heading_trips(out: &impl Print) -> io::Result<()> {
+    let headings = [
+        Heading(0, 256, 2, 512),
+        Heading(12, 244, 2, 488),
+        Heading(255, 1, 2, 2),
+        NO_STEPS,
+    ];
+    for heading in headings {
+        let Heading(first_input, lanes, steps, _) = heading;
+        print!(out; "first input, lanes and steps: {first_input} {lanes} {steps}")?;
+        round_trip(out, ":", first(&heading.example(), heading.record_bytes()))?;
+    }
+    Ok(())
+}
+
+fn lengths(out: &impl Print) -> io::Result<()> {
+    answers(
+        out,
+        "bytes read, from 0 on",
+        (0..51usize).map(|n| read_lent(n, 39)),
+    )?;
+    answers(
+        out,
+        "trace lent to the reader, from 0 on",
+        (0..40usize).map(|m| read_lent(49, m)),
+    )?;
+    answers(
+        out,
+        "trace lent to the writer, from 0 on",
+        (0..27usize).map(|m| write_bytes(&EXAMPLE, m, 80)),
+    )?;
+    answers(
+        out,
+        "output lent, from 0 on",
+        (0..61usize).map(|n| write_bytes(&EXAMPLE, 26, n)),
+    )?;
+    answers(
+        out,
+        "bytes read of a record without steps, from 0 on",
+        (0..23usize).map(|n| read_heading(NO_STEPS, n)),
+    )?;
+    answers(
+        out,
+        "output lent to a record without steps, from 0 on",
+        (0..23usize).map(|n| write_heading(NO_STEPS, n)),
+    )
+}
+
+// How many of the 256 first bytes make a record.
 fn first_bytes(out: &impl Print) -> io::Result<()> {
-    out.write_all(b"first bytes taken:")?;
-    tell(out, taken(Series::Kind))?;
-    tell(out, taken(Series::RefusalKind))?;
-    end_line(out)
+    let accepted = (0..=255u8)
+        .filter(|b| read_edited(Edit::Byte(0, *b)) == 0)
+        .count();
+    let refused = (0..=255u8)
+        .filter(|b| read_refusal(Edit::Byte(0, *b)) == 0)
+        .count();
+    println!(out; "first bytes taken: {accepted} {refused}")
 }
 
 fn main(rt: HostRuntime) -> io::Result<()> {
-    rt.write_all(b"document 01:")?;
-    round_trip_first(&rt, &EXAMPLE, 49)?;
+    round_trip(&rt, "document 01:", &EXAMPLE[..49])?;
     edits(&rt)?;
     headings(&rt)?;
+    heading_trips(&rt)?;
     lengths(&rt)?;
     first_bytes(&rt)?;
-    rt.write_all(b"events:")?;
-    with_events(&rt, 32)?;
-    rt.write_all(b"events:")?;
-    with_events(&rt, 33)
+    for n in [32, 33] {
+        let bytes = with_events(rt.alloc(), n)?;
+        print!(&rt; "events: {n}")?;
+        round_trip(&rt, "", &bytes)?;
+    }
+    Ok(())
 }

@@ -2,10 +2,10 @@
 // list's, byte for byte, and prints for each number and role of a refusal how many cases there are and how many differ.
 #![tactic(auto)]
 
-use little_endian::get_u8;
-use std::io;
-use std::io::Read;
-use test_support::{next, next_bytes, say, unlike};
+use little_endian::get;
+use std::collections::BTreeMap;
+use std::{fmt, io};
+use test_support::{Listed, read_input, unlike};
 
 // What lent memory holds before a run.
 const BEFORE: u8 = 0xa5;
@@ -16,12 +16,38 @@ const TRACE_BYTES: usize = 26_624;
 
 const RECORD_BYTES: usize = 2048;
 
-// Whether the first n bytes of an output are the record.
-fn starts(output: &[u8], n: usize, record: &[u8]) -> bool {
-    if output.len() < n {
-        return false;
+#[derive(Clone, Copy, PartialEq, Eq, PartialOrd, Ord)]
+enum Class {
+    Accepted,
+    Refused { number: u8, role: u8 },
+}
+
+// How many cases there are, and how many of them differ.
+#[derive(Clone, Copy, Default)]
+struct Counts {
+    cases: u32,
+    differing: u32,
+}
+
+impl Class {
+    fn of(record: &[u8]) -> Class {
+        if get::<u8>(record, 0) != 0x7F {
+            return Class::Accepted;
+        }
+        Class::Refused {
+            number: get(record, 1),
+            role: get(record, 2),
+        }
     }
-    &output[..n] == record
+}
+
+impl fmt::Display for Class {
+    fn fmt<W: fmt::Write>(&self, f: &mut fmt::Formatter<W>) -> fmt::Result {
+        match self {
+            Class::Accepted => write!(f, "accepted"),
+            Class::Refused { number, role } => write!(f, "refusal {number} role {role}"),
+        }
+    }
 }
 
 // Whether an input's run, in 200 rows and 2,048 entries, gives this record and leaves the rows zero.
@@ -29,82 +55,37 @@ fn agrees(input: &[u8], record: &[u8]) -> bool {
     let mut rows = [BEFORE; ROWS_BYTES];
     let mut trace = [BEFORE; TRACE_BYTES];
     let mut output = [BEFORE; RECORD_BYTES];
-    let answer = lane_library::run_input(input, &mut rows, &mut trace, &mut output);
-    if answer.number() != 0 {
-        return false;
-    }
-    starts(&output, answer.written(), record) && unlike(&rows, 0, ROWS_BYTES, 0) == 0
-}
-
-// Sixteen times a refusal's number, and its role; 0 for an accepted run.
-fn class_of(record: &[u8]) -> u8 {
-    if get_u8(record, 0) != 0x7F {
-        return 0;
-    }
-    get_u8(record, 1) % 16 * 16 + get_u8(record, 2) % 16
-}
-
-fn count(counts: &mut [u32; 256], class: u8) {
-    let k = class as usize;
-    counts[k] = std::num::wrapping_add_u32(counts[k], 1);
-}
-
-// A case, counted in its class.
-fn replay(input: &[u8], record: &[u8], cases: &mut [u32; 256], differing: &mut [u32; 256]) {
-    let class = class_of(record);
-    count(cases, class);
-    if !agrees(input, record) {
-        count(differing, class);
+    match lane_library::run_input(input, &mut rows, &mut trace, &mut output) {
+        Ok(n) => n <= RECORD_BYTES && &output[..n] == record && unlike(&rows, 0) == 0,
+        Err(_) => false,
     }
 }
 
-fn next_case<R: Read>(
-    reader: &mut R,
-    cases: &mut [u32; 256],
-    differing: &mut [u32; 256],
-) -> io::Result<()> {
-    let mut input = [0u8; 1024];
-    let mut record = [0u8; RECORD_BYTES];
-    let input_bytes = next_bytes(reader, &mut input)?;
-    let record_bytes = next_bytes(reader, &mut record)?;
-    replay(
-        &input[..input_bytes],
-        &record[..record_bytes],
-        cases,
-        differing,
-    );
-    Ok(())
-}
-
-fn report(out: &impl Print, class: u8, cases: u32, differing: u32) -> io::Result<()> {
-    if cases == 0 {
-        return Ok(());
-    }
-    if class == 0 {
-        out.write_all(b"accepted")?;
-    } else {
-        say(out, b"refusal ", (class / 16) as u64)?;
-        say(out, b" role ", (class % 16) as u64)?;
-    }
-    say(out, b": ", cases as u64)?;
-    say(out, b" replayed, ", differing as u64)?;
-    out.write_all(b" differ\n")
-}
-
-fn report_all(out: &impl Print, cases: [u32; 256], differing: [u32; 256]) -> io::Result<()> {
-    for class in 0..256usize {
-        report(out, class as u8, cases[class], differing[class])?;
-    }
+// The next case, counted in its class.
+fn next_case(list: &mut Listed, classes: &mut BTreeMap<Class, Counts>) -> io::Result<()> {
+    let input = list.bytes(1024);
+    let record = list.bytes(RECORD_BYTES);
+    let differs = !agrees(input, record);
+    let counts = classes
+        .entry(Class::of(record))?
+        .or_insert(Counts::default());
+    counts.cases = counts.cases.wrapping_add(1);
+    counts.differing = counts.differing.wrapping_add(u32::from(differs));
     Ok(())
 }
 
 fn main(rt: HostRuntime) -> io::Result<()> {
-    let mut reader = rt.stdin();
-    let mut cases = [0u32; 256];
-    let mut differing = [0u32; 256];
-    let count = next(&mut reader)?;
-    for _ in 0..count {
-        next_case(&mut reader, &mut cases, &mut differing)?;
+    let bytes = read_input(&rt)?;
+    let mut list = Listed { left: &bytes };
+    let mut classes = BTreeMap::new(rt.alloc());
+    for _ in 0..list.number() {
+        next_case(&mut list, &mut classes)?;
     }
-    report_all(&rt, cases, differing)
+    for (class, counts) in &classes {
+        println!(&rt;
+            "{class}: {} replayed, {} differ",
+            counts.cases, counts.differing
+        )?;
+    }
+    Ok(())
 }

@@ -1,2 +1,2 @@
--- What the comparisons of the test programs count.
-pub mod Unlike
+-- What the list on standard input has.
+pub mod Listed

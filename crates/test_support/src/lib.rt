@@ -1,124 +1,98 @@
-// What the test programs share: numbers and bytes that are read, text and numbers that are printed, and comparisons.
+// What the test programs share: the list on standard input, a count of unlike bytes, and a line of a record.
 #![tactic(auto)]
 
-ghost use Rattle.std.specs.Prelude.{◌≡◌, ◌-◌, ◌≤◌, length, replicate, IfOk};
-ghost use Rattle.test_support.specs.Unlike.{difference, unlike_bytes};
+ghost use Rattle.std.specs.Prelude.{◌≡◌, ◌≤◌, ◌==◌, [], not, length, count_by, take, drop, min, if◌then◌else◌};
+ghost use Rattle.test_support.specs.Listed.{number_at, fits, bytes_at};
 
-use little_endian::{get_u8, get_u32};
-use std::io;
+use little_endian::get;
 use std::io::Read;
+use std::{fmt, io};
 
-// Up to the end of the reader, or of the buffer: how many bytes were read. Here and below an error is the reader's or the printer's own, and comes of
-// nothing else; a buffer then holds what was read before it.
-pub fn read_full<R: Read>(reader: &mut R, buffer: &mut [u8]) -> io::Result<usize>
-    ensures read { IfOk result (λ n. n ≤ length buffer.old) }
-    ensures kept { length buffer.new ≡ length buffer.old }
-{
-    let mut done: usize = 0;
-    while done < buffer.len() {
-        let more = reader.read(&mut buffer[done..])?;
-        if more == 0 {
-            break;
+// All of standard input. No clause says what that is.
+pub fn read_input<R: Input + Alloc>(rt: &R) -> io::Result<Vec<u8, R::A>> {
+    let mut bytes = Vec::new(rt.alloc());
+    rt.reader().read_to_end(&mut bytes)?;
+    Ok(bytes)
+}
+
+// What is left of a list of numbers, each of 4 bytes from the lowest up, and of bytes, each time with their number before them.
+#[derive(Drop)]
+pub struct Listed<'a> {
+    pub left: &'a [u8],
+}
+
+impl<'a> Listed<'a> {
+    // So many bytes, or what is left where that is less.
+    pub fn take(&mut self, count: usize) -> &'a [u8]
+        ensures value { result.now ≡ take count self.old.left.now }
+        ensures left { self.new.left.now ≡ drop count self.old.left.now }
+    {
+        let (bytes, left) = self.left.split_at(self.left.len().min(count));
+        self.left = left;
+        bytes
+    }
+
+    // The next number; past the end its bytes are zeros.
+    pub fn number(&mut self) -> u32
+        ensures value { result ≡ number_at self.old.left.now }
+        ensures left { self.new.left.now ≡ drop 4 self.old.left.now }
+    {
+        get::<u32>(self.take(4), 0)
+    }
+
+    // The next number, or the limit where that is less.
+    pub fn size(&mut self, limit: usize) -> usize
+        ensures value { result ≡ min (number_at self.old.left.now) limit }
+        ensures left { self.new.left.now ≡ drop 4 self.old.left.now }
+    {
+        limit.min(self.number() as usize)
+    }
+
+    // The next bytes, behind their number; none, and they stay in the list, where they are more than the limit.
+    pub fn bytes(&mut self, limit: usize) -> &'a [u8]
+        ensures bound { length result.now ≤ limit }
+        ensures value { result.now ≡ (if fits self.old.left.now limit then bytes_at self.old.left.now else []) }
+        ensures left { self.new.left.now ≡ (if fits self.old.left.now limit then drop (number_at self.old.left.now) (drop 4 self.old.left.now) else drop 4 self.old.left.now) }
+    {
+        let count = self.number() as usize;
+        if limit < count {
+            return &[];
         }
-        done += more;
-    }
-    Ok(done)
-}
-
-// The next number, 4 bytes from the lowest up; 0 past the end.
-pub fn next<R: Read>(reader: &mut R) -> io::Result<u32> {
-    let mut bytes = [0u8; 4];
-    read_full(reader, &mut bytes)?;
-    Ok(get_u32(&bytes, 0))
-}
-
-// The next number, or the limit where that is less.
-pub fn next_size<R: Read>(reader: &mut R, limit: usize) -> io::Result<usize>
-    ensures { IfOk result (λ n. n ≤ limit) }
-{
-    let size = next(reader)? as usize;
-    Ok(if size < limit { size } else { limit })
-}
-
-// How many bytes come next, which are read; none where the buffer is too short.
-pub fn next_bytes<R: Read>(reader: &mut R, buffer: &mut [u8]) -> io::Result<usize>
-    ensures read { IfOk result (λ n. n ≤ length buffer.old) }
-    ensures kept { length buffer.new ≡ length buffer.old }
-{
-    let count = next(reader)? as usize;
-    if buffer.len() < count {
-        return Ok(0);
-    }
-    read_full(reader, &mut buffer[..count])?;
-    Ok(count)
-}
-
-// The next text, of at most 64 bytes, as it is.
-pub fn say_next<R: Read>(out: &impl Print, reader: &mut R) -> io::Result<()> {
-    let mut text = [0u8; 64];
-    let count = next_bytes(reader, &mut text)?;
-    out.write_all(&text[..count])
-}
-
-// A text, and a number in decimal digits.
-pub fn say(out: &impl Print, text: &[u8], n: u64) -> io::Result<()> {
-    out.write_all(text)?;
-    out.print(n)
-}
-
-// A text, and a word in eight hexadecimal digits.
-pub fn say_word(out: &impl Print, text: &[u8], n: u32) -> io::Result<()> {
-    out.write_all(text)?;
-    print!(out; "{n:08x}")
-}
-
-pub fn end_line(out: &impl Print) -> io::Result<()> {
-    out.write_all(b"\n")
-}
-
-// 1 where two numbers differ, else 0.
-pub fn differs(a: u32, b: u32) -> u64
-    ensures value { result ≡ difference a b }
-    ensures upper_bound { result ≤ 1 }
-{
-    if a == b { 0 } else { 1 }
-}
-
-// How many of the bytes from one place up to another are not `byte`.
-pub fn unlike(memory: &[u8], from: usize, end: usize, byte: u8) -> u64
-    ensures { result ≡ unlike_bytes memory.now byte from (end - from) }
-{
-    let mut count: u64 = 0;
-    let mut k = from;
-    while k < end {
-        count = std::num::wrapping_add_u64(count, differs(get_u8(memory, k) as u32, byte as u32));
-        k += 1;
-    }
-    count
-}
-
-// Every byte set to `byte`.
-pub fn fill(memory: &mut [u8], byte: u8)
-    ensures { memory.new ≡ replicate (length memory.old) byte }
-{
-    let mut k: usize = 0;
-    while k < memory.len() {
-        memory[k] = byte;
-        k += 1;
+        self.take(count)
     }
 }
 
-// A line of what docs/RECORD.md has at these places of a record's heading, or of a refusal.
-pub fn say_record(out: &impl Print, record: &[u8]) -> io::Result<()> {
-    if get_u8(record, 0) == 0x01 {
-        say(out, b": accepted, return value ", get_u32(record, 4) as u64)?;
-        say(out, b", steps ", get_u32(record, 8) as u64)?;
-        say(out, b", events ", get_u8(record, 20) as u64)?;
-        say(out, b", written bytes ", get_u32(record, 16) as u64)?;
-    } else {
-        say(out, b": refusal ", get_u8(record, 1) as u64)?;
-        say(out, b", role ", get_u8(record, 2) as u64)?;
-        say(out, b", steps ", get_u32(record, 3) as u64)?;
+// How many bytes are not `byte`.
+pub fn unlike(bytes: &[u8], byte: u8) -> usize
+    ensures { result ≡ count_by (λ b. not (b == byte)) bytes.now }
+{
+    bytes.iter().filter(|b| **b != byte).count()
+}
+
+// What docs/RECORD.md has at these places of a record's heading, or of a refusal.
+#[derive(Clone, Copy)]
+pub struct Heading<'a>(pub &'a [u8]);
+
+impl fmt::Display for Heading<'_> {
+    fn fmt<W: fmt::Write>(&self, f: &mut fmt::Formatter<W>) -> fmt::Result {
+        let record = self.0;
+        if get::<u8>(record, 0) == 0x01 {
+            write!(
+                f,
+                "accepted, return value {}, steps {}, events {}, written bytes {}",
+                get::<u32>(record, 4),
+                get::<u32>(record, 8),
+                get::<u8>(record, 20),
+                get::<u32>(record, 16)
+            )
+        } else {
+            write!(
+                f,
+                "refusal {}, role {}, steps {}",
+                get::<u8>(record, 1),
+                get::<u8>(record, 2),
+                get::<u32>(record, 3)
+            )
+        }
     }
-    end_line(out)
 }

@@ -9,7 +9,7 @@ use Rattle.lane_word.specs.declared.InputRange.{InputRange}
 use Rattle.predicate_trace.specs.declared.PredicateControlStep.{PredicateControlStep}
 use Rattle.predicate_answer.specs.declared.CompiledMmioEvent.{CompiledMmioEvent}
 use Rattle.predicate_answer.specs.declared.PredicateTransducerExecution.{PredicateTransducerExecution}
-use Rattle.predicate_semantics.specs.State.{Result}
+use Rattle.predicate_semantics.specs.State.{RunResult}
 use Rattle.predicate_semantics.specs.Standing.{scalar_answer}
 use Rattle.lane_record.specs.Format.{Record, accepted, refused}
 use Rattle.wrong_programs.specs.Inputs.{Input, returns_input, returns_unset, returns1, returns0, jump_first, nop_first, raises2, raises3}
@@ -17,11 +17,11 @@ use Rattle.wrong_programs.specs.Behaviours.{Observed, is_accepted, numbers, even
 use Rattle.wrong_programs.specs.Refuted.{PromiseRefuted}
 use Rattle.wrong_programs.proofs.Table.{runs, images, Computed, operation, different, unset_zero}
 
-abbrev scalar_at : Input → ℕ → (ℕ → ℕ) → Option Result
+abbrev scalar_at : Input → ℕ → (ℕ → ℕ) → Option RunResult
 scalar_at x i others = scalar_answer x.image x.program i others
 
 -- what a record says of its run
-abbrev pub result_of : PredicateTransducerExecution → List CompiledMmioEvent → List PredicateControlStep → Result
+abbrev pub result_of : PredicateTransducerExecution → List CompiledMmioEvent → List PredicateControlStep → RunResult
 result_of e es ss = record { return_value = e.return_value; steps = e.symbolic_transitions; trace = ss; events = es }
 
 -- what is accepted is a record
@@ -36,19 +36,19 @@ accepted_by none h = absurd (true≢false (sym h))
 accepted_by (some (accepted e es ss)) h = record { numbers = e; events = es; steps = ss; is = refl }
 accepted_by (some (refused f)) h = absurd (true≢false (sym h))
 
-abbrev returned : Option Result → ℕ
+abbrev returned : Option RunResult → ℕ
 returned none = 0
 returned (some r) = r.return_value
 
-abbrev counted : Option Result → ℕ
+abbrev counted : Option RunResult → ℕ
 counted none = 0
 counted (some r) = r.steps
 
-abbrev traced : Option Result → List PredicateControlStep
+abbrev traced : Option RunResult → List PredicateControlStep
 traced none = []
 traced (some r) = r.trace
 
-abbrev raised : Option Result → List CompiledMmioEvent
+abbrev raised : Option RunResult → List CompiledMmioEvent
 raised none = []
 raised (some r) = r.events
 

@@ -1,4 +1,5 @@
 -- Each contract's promise, and that the wrong programs break it.
+use Rattle.std.specs.Prelude.{Err, Ok, Result}
 use mathlib.Core.Path.{◌≡◌, refl, sym, ap, ◌∙◌}
 use mathlib.Core.Bool.{true}
 use mathlib.Core.Option.{Option, some}
@@ -20,14 +21,9 @@ use Rattle.predicate_trace.proofs.TraceLaws.{trace_back}
 use Rattle.predicate_answer.specs.declared.CompiledMmioEvent.{CompiledMmioEvent}
 use Rattle.predicate_answer.specs.declared.PredicateTransducerExecution.{PredicateTransducerExecution}
 use Rattle.predicate_answer.specs.Blank.{max_events, no_events}
-use Rattle.predicate_answer.specs.declared.CallVerdict.{CallVerdict}
-use Rattle.predicate_answer.specs.declared.CallVerdict.TheVariants as verdict
-use Rattle.predicate_answer.specs.declared.RecordAnswer.{RecordAnswer}
-use Rattle.predicate_answer.specs.declared.RecordAnswer.TheVariants as answer
 use Rattle.predicate_answer.specs.Outcome.{accepted_outcome}
-use Rattle.predicate_semantics.specs.State.{Result, result_read}
+use Rattle.predicate_semantics.specs.State.{RunResult, result_read}
 use Rattle.predicate_semantics.specs.Standing.{scalar_answer}
-use Rattle.lane_record.specs.declared.ReadAnswer.TheVariants as read
 use Rattle.lane_record.specs.Format.{Record, accepted, FitsRecord}
 use Rattle.lane_record.specs.Rules.{within, min_written_bytes, max_written_bytes, fewest_steps, execution_valid, valid}
 use Rattle.lane_record.specs.Decode.{decode_record}
@@ -37,25 +33,32 @@ use Rattle.lane_record.proofs.DecodeLaws.{rules, decode_same}
 use Rattle.lane_library.specs.Outcome.{ran_said}
 use Rattle.wrong_programs.specs.Inputs.{Input, twelve_channels}
 use Rattle.wrong_programs.specs.Behaviours.{is_accepted, numbers, events, steps, NamesRange}
-use Rattle.wrong_programs.specs.Refuted.{PromiseRefuted, RunOutput, record_by, seen_of_run, RunPromises, RunPromiseRefuted, LibraryOutput, written, seen_of, BytesPromise, BytesRefuted, LibraryRefuted}
+use Rattle.wrong_programs.specs.Refuted.{PromiseRefuted, RunOutput, record_by, record_seen, seen_of_run, RunPromises, RunPromiseRefuted, LibraryOutput, written, seen_of, BytesPromise, BytesRefuted, LibraryRefuted}
 use Rattle.wrong_programs.proofs.Right.{library_right, library_never}
 use Rattle.wrong_programs.proofs.Table.{Computed, at_invalid, at_twelve, refuted_over_ranges}
 use Rattle.wrong_programs.proofs.Promise.{result_of, Accepted, promise_refuted}
+use Rattle.predicate_answer.specs.declared.CallError.{CallError}
+use Rattle.predicate_answer.specs.declared.RecordOutcome.{RecordOutcome}
+use Rattle.predicate_answer.specs.declared.RecordRefusal.{RecordRefusal}
 
 -- ---- the run
 
 -- what is seen to be accepted is answered so, and the record's numbers are the answer's
-accepted_by : (v : CallVerdict) (s : RecordAnswer) (e : PredicateTransducerExecution) (es : List CompiledMmioEvent) (t : List ℕ) (a : Accepted (record_by v s e es t))
-    → (s ≡ answer.Accepted) × (result_of e (take e.event_count es) (steps_at 0 e.symbolic_transitions t) ≡ result_of a.numbers a.events a.steps)
-accepted_by verdict.Passed answer.Accepted e es t a = (refl, rw (sym (ap numbers a.is), sym (ap events a.is), sym (ap steps a.is)) refl)
-accepted_by verdict.Passed (answer.Refused f) e es t a = let z : ◌≡◌ {A = ℕ} 0 1 = cc a.is in absurd (omega arith)
-accepted_by (verdict.Refused x) s e es t a = let z : ◌≡◌ {A = ℕ} 0 1 = cc a.is in absurd (omega arith)
+accepted_by : (s : Result (Unit {0}) RecordRefusal) (e : PredicateTransducerExecution) (es : List CompiledMmioEvent) (t : List ℕ) (a : Accepted (some (record_by s e es t)))
+    → (s ≡ Ok tt) × (result_of e (take e.event_count es) (steps_at 0 e.symbolic_transitions t) ≡ result_of a.numbers a.events a.steps)
+accepted_by (Ok tt) e es t a = (refl, rw (sym (ap numbers a.is), sym (ap events a.is), sym (ap steps a.is)) refl)
+accepted_by (Err f) e es t a = let z : ◌≡◌ {A = ℕ} 0 1 = cc a.is in absurd (omega arith)
 
 run_told : (x : Input) (o : RunOutput) → RunPromises x o → (a : Accepted (seen_of_run o).recorded) → (i : ℕ) → x.range.first ≤ i → i ≤ x.range.last
     → (others : ℕ → ℕ) → scalar_answer x.image x.program i others ≡ some (result_of a.numbers a.events a.steps)
-run_told x o m a i low high others =
-    let (is, same) = accepted_by o.run.verdict o.run.outcome.answer o.run.outcome.execution o.run.outcome.events o.trace a in
-    m is i low high others ∙ ap (λ (y : Result). some y) same
+run_told x o m a i low high others = go o.run refl a
+  where
+    go : (r : Result RecordOutcome CallError) → o.run ≡ r → (b : Accepted (record_seen r o.trace))
+        → scalar_answer x.image x.program i others ≡ some (result_of b.numbers b.events b.steps)
+    go (Ok p) e b =
+        let (is, same) = accepted_by p.answer p.execution p.events o.trace b in
+        m p e is i low high others ∙ ap (λ (y : RunResult). some y) same
+    go (Err f) e b = let z : ◌≡◌ {A = ℕ} 0 1 = cc b.is in absurd (omega arith)
 
 module _ (range : InputRange) (more : range.first < range.last) (c : Computed range) where
   run_promise : PromiseRefuted RunOutput seen_of_run RunPromises (λ p. Unit {0}) range
@@ -112,9 +115,9 @@ module _ (x : Input) (o : LibraryOutput) (m : BytesPromise x o) where
       = le-leb (e.symbolic_transitions * entry_bytes) (length t) (omega (arith, length-replicate {A = ℕ} (e.symbolic_transitions * entry_bytes) 0)) in (
         one_lane e (rules e es ss same.rules).0,
         λ i low high others.
-            m.1 n w t (record { answer = read.Read; outcome = accepted_outcome e es }) (over (trace_bytes ss) t)
-            (rw d (record { answer = rw l; outcome = rw l; trace = rw l })) refl refl i low high others
-            ∙ ap (λ (y : Result). some y) (read_result e es ss t same.rules same.fits),
+            m.1 n w t (accepted_outcome e es) (over (trace_bytes ss) t)
+            (rw d (record { answer = rw l; outcome = rw l; trace = rw l })) refl i low high others
+            ∙ ap (λ (y : RunResult). some y) (read_result e es ss t same.rules same.fits),
       )
   read_by done w q p e es ss h = let z : ◌≡◌ {A = ℕ} 0 1 = cc (p ∙ h) in absurd (omega arith)
   read_by (refuses k) w q p e es ss h = let z : ◌≡◌ {A = ℕ} 0 1 = cc (p ∙ h) in absurd (omega arith)

@@ -1,4 +1,6 @@
 -- What each contract says of what is seen: the record, the rows and the trace of the definition's run. Assumes nothing.
+use Rattle.std.specs.Prelude.{Ok, Result}
+use Rattle.std.specs.Result.{result_and}
 use mathlib.Core.Path.{◌≡◌, refl, ap, ◌∙◌}
 use mathlib.Core.Bool.{Bool, true, false, cond, ◌&&◌, ◌||◌}
 use mathlib.Core.Option.{Option, some}
@@ -12,14 +14,12 @@ use lib.Seq.{take-append_seam}
 use Rattle.little_endian.specs.Lent.{over}
 use Rattle.riscv32imc.specs.Constants.{max_steps}
 use Rattle.predicate_trace.specs.declared.PredicateControlStep.{PredicateControlStep}
-use Rattle.predicate_answer.specs.declared.CallVerdict.{CallVerdict}
 use Rattle.predicate_answer.specs.declared.CompiledMmioEvent.{CompiledMmioEvent}
 use Rattle.predicate_answer.specs.declared.PredicateTransducerExecution.{PredicateTransducerExecution}
-use Rattle.predicate_answer.specs.declared.RecordOutcome.{RecordOutcome}
 use Rattle.predicate_answer.specs.declared.RecordRefusal.{RecordRefusal}
 use Rattle.predicate_answer.specs.Blank.{last_refusal, last_role}
 use Rattle.predicate_answer.specs.Refusal.{RunRefusal, Refusal, of_run, of_call, number_of, refusal_after}
-use Rattle.predicate_semantics.specs.State.{Result}
+use Rattle.predicate_semantics.specs.State.{RunResult}
 use Rattle.predicate_semantics.specs.Tested.{Tested, passed}
 use Rattle.predicate_semantics.specs.Lane.{execution}
 use Rattle.predicate_semantics.specs.RecordRules.{proper}
@@ -39,7 +39,8 @@ use Rattle.riscv32imc_predicate.specs.Outcome.{trace_after}
 use Rattle.lane_library.specs.Outcome.{answer_by}
 use Rattle.wrong_programs.specs.Inputs.{Input, call_at}
 use Rattle.wrong_programs.specs.Behaviours.{Observed, no_space_at_once}
-use Rattle.wrong_programs.specs.Refuted.{NeverAtOnce, RunOutput, record_by, seen_of_run, RunMeets, LibraryOutput, written, seen_of, LibraryMeets}
+use Rattle.wrong_programs.specs.Refuted.{NeverAtOnce, RunOutput, record_seen, seen_of_run, RunMeets, LibraryOutput, written, seen_of, LibraryMeets}
+use Rattle.predicate_answer.specs.declared.CallError.{CallError}
 
 abbrev pub record_at : Input → Option Record
 record_at x = record_of (call_at x)
@@ -54,32 +55,28 @@ pub record Right (x : Input) (o : Observed) : Type 0 where
 
 -- ---- the run
 
--- what is seen of a verdict, an outcome and a trace
-abbrev outcome_seen : CallVerdict → RecordOutcome → List ℕ → Option Record
-outcome_seen v o t = record_by v o.answer o.execution o.events t
-
--- of a call's own it is the call's record
-seen_by : (c : Call) (t : List ℕ) (a : Tested Result) → (run_of c).answer ≡ a
-    → outcome_seen (verdict_in a) (outcome_in c (run_of c).state a) (trace_after c t) ≡ record_in c (run_of c).state a
+-- what is seen of a call's own answer is the call's record
+seen_by : (c : Call) (t : List ℕ) (a : Tested RunResult) → (run_of c).answer ≡ a
+    → record_seen (result_and (verdict_in a) (Ok (outcome_in c (run_of c).state a))) (trace_after c t) ≡ record_in c (run_of c).state a
 seen_by c t (passed r) q =
     rw (call_accepted c r q).trace
-    (ap (λ (y : Result). some (accepted (execution (program_in c) (setup_of c) (run_of c).state r) y.events y.trace)) (read_back c r q t))
+    (ap (λ (y : RunResult). some (accepted (execution (program_in c) (setup_of c) (run_of c).state r) y.events y.trace)) (read_back c r q t))
 seen_by c t (Tested.refused (of_run f)) q = refl
 seen_by c t (Tested.refused (of_call e)) q = refl
 
 pub run_right : (x : Input) (o : RunOutput) → RunMeets x o → Right x (seen_of_run o)
 run_right x o h = record {
-  recorded = rw (h.verdict, h.outcome, h.entries) (seen_by (call_at x) x.trace (run_of (call_at x)).answer refl);
+  recorded = rw (h.answer, h.entries) (seen_by (call_at x) x.trace (run_of (call_at x)).answer refl);
   rows = h.zero;
   trace = h.entries;
 }
 
 -- an answer that is no refusal for want of space
-abbrev HasSpace : Tested Result → Type 0
+abbrev HasSpace : Tested RunResult → Type 0
 HasSpace a = (r : Refusal) → a ≡ Tested.refused r → (eqb (number_of r) 13 || eqb (number_of r) 14) ≡ false
 
 -- .. has no record that is one
-record_no_space : (c : Call) (a : Tested Result) → HasSpace a → no_space_at_once (record_in c (run_of c).state a) ≡ false
+record_no_space : (c : Call) (a : Tested RunResult) → HasSpace a → no_space_at_once (record_in c (run_of c).state a) ≡ false
 record_no_space c (passed r) h = refl
 record_no_space c (Tested.refused (of_run q)) h = ap (λ (b : Bool). b && eqb (run_of c).state.steps 0) (h (of_run q) refl)
 record_no_space c (Tested.refused (of_call e)) h = refl
@@ -90,7 +87,7 @@ run_never x h o m = ap no_space_at_once (run_right x o m).recorded ∙ record_no
 -- ---- the library
 
 -- what is written of a verdict and a record with so much output, read again
-abbrev written_of : CallVerdict → Option Record → List ℕ → Option Record
+abbrev written_of : Result (Unit {0}) CallError → Option Record → List ℕ → Option Record
 written_of v q output = written (answer_by v q (length output)) (write_output q output)
 
 library_written : (x : Input) (o : LibraryOutput) → LibraryMeets x o → (seen_of o).recorded ≡ written_of (verdict_on (call_at x)) (record_at x) x.output
@@ -148,7 +145,7 @@ written_by : (x : Record) (output : List ℕ) → no_space_at_once (decode_recor
 written_by x output e true = ap (λ (bs : List ℕ). no_space_at_once (decode_record bs)) (take-append_seam (encode x) (drop (length (encode x)) output)) ∙ e
 written_by x output e false = refl
 
-written_no_space : (c : Call) (output : List ℕ) (a : Tested Result) → (run_of c).answer ≡ a → HasSpace a
+written_no_space : (c : Call) (output : List ℕ) (a : Tested RunResult) → (run_of c).answer ≡ a → HasSpace a
     → no_space_at_once (written_of (verdict_in a) (record_in c (run_of c).state a) output) ≡ false
 written_no_space c output (passed r) q h =
     let e = execution (program_in c) (setup_of c) (run_of c).state r in

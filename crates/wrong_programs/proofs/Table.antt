@@ -9,7 +9,7 @@ use native.Mathlib.Omega.{arith}
 use lib.ListN.{get_or}
 use Rattle.lane_word.specs.declared.InputRange.{InputRange}
 use Rattle.lane_word.specs.Range.{invalid_channels}
-use Rattle.predicate_semantics.specs.State.{Result}
+use Rattle.predicate_semantics.specs.State.{RunResult}
 use Rattle.predicate_semantics.specs.Tested.{passed}
 use Rattle.predicate_semantics.specs.Lane as Lane
 use Rattle.predicate_semantics.specs.Cases as Cases
@@ -65,7 +65,7 @@ pub record Computed (range : InputRange) : Type 0 where
   pub served_below : Served (stores_below range)
   pub served_2 : Served (raises2 range)
   pub served_3 : Served (raises3 range)
-  pub copies : (r : Result) × ((copied (returns_input range)).answer ≡ passed r)
+  pub copies : (r : RunResult) × ((copied (returns_input range)).answer ≡ passed r)
   pub input_refused : is_accepted (record_at (returns_input range)) ≡ false
   pub traces_part : Agree (steps (record_at (jump_first range))) (steps (record_at (nop_first range))) → ⊥
   pub written_at_stop : written (record_at (stores_at_stop range)) ≡ 4
@@ -84,7 +84,7 @@ pub record Computed (range : InputRange) : Type 0 where
   pub unset_refused : is_accepted (record_at (returns_unset range)) ≡ false
 
 -- what the scalar run of each input answers where a register is not set and holds 0
-pub unset_zero : (range : InputRange) → (r : Result) × ((i : ℕ) → scalar_answer (returns_unset range).image (returns_unset range).program i (λ _. 0) ≡ some r)
+pub unset_zero : (range : InputRange) → (r : RunResult) × ((i : ℕ) → scalar_answer (returns_unset range).image (returns_unset range).program i (λ _. 0) ≡ some r)
 unfolding runs
 unset_zero range = (_, λ i. refl)
 

@@ -1,14 +1,13 @@
 -- What the wrong programs do (document 01, Conditions of acceptance, and four more), over what is seen of a program at each input.
-use Rattle.std.specs.Prelude.{◌≡◌, Bool, true, false, ◌&&◌, ◌||◌, ◌⊎◌, List, [], ◌∷◌, ℕ, ◌-◌, ◌≤◌, eqb, length, take, drop, replicate}
+use Rattle.std.specs.Prelude.{◌≡◌, Bool, true, false, ◌&&◌, ◌||◌, ◌⊎◌, List, [], ◌∷◌, ℕ, ◌-◌, ◌≤◌, eqb, length, take, drop, replicate, Ok}
 use Rattle.std.proofs.Math.Option.{Option, none, some}
 use Rattle.riscv32imc.specs.Constants.{image_base, max_steps}
 use Rattle.lane_word.specs.Range.{input_count}
 use Rattle.predicate_trace.specs.declared.PredicateControlStep.{PredicateControlStep}
 use Rattle.predicate_answer.specs.declared.CompiledMmioEvent.{CompiledMmioEvent}
 use Rattle.predicate_answer.specs.declared.PredicateTransducerExecution.{PredicateTransducerExecution}
-use Rattle.predicate_answer.specs.declared.CallVerdict.TheVariants as verdict
 use Rattle.predicate_answer.specs.Blank.{no_execution}
-use Rattle.predicate_semantics.specs.State.{Result}
+use Rattle.predicate_semantics.specs.State.{RunResult}
 use Rattle.predicate_semantics.specs.Tested.{passed}
 use Rattle.predicate_semantics.specs.Lane.{Ended, lane_run}
 use Rattle.predicate_semantics.specs.Standing.{scalar_answer}
@@ -68,7 +67,7 @@ no_space_at_once (some (refused f)) = (eqb f.number 13 || eqb f.number 14) && eq
 abbrev pub copied : Input → Ended
 copied x =
     lane_run (program_in (call_at x))
-    (record { inputs = replicate (input_count x.range) x.range.first; choice = verdict.Passed; rows = row_count x.rows; entries = entry_count x.trace }) max_steps
+    (record { inputs = replicate (input_count x.range) x.range.first; choice = Ok tt; rows = row_count x.rows; entries = entry_count x.trace }) max_steps
 
 -- the bytes at the entry, as many as an instruction can have
 abbrev pub first_instruction : Input → List ℕ
@@ -99,7 +98,7 @@ module _ (program : Input → Observed) where
 
   -- 1. the first input's run serves for all of them (of 6 to 255, a run of input 6 copied): it accepts what lanes that all hold that input pass
   abbrev pub CopiesFirstInput : Type 0
-  CopiesFirstInput = (x : Input) (r : Result) → (copied x).answer ≡ passed r → AcceptsAt x
+  CopiesFirstInput = (x : Input) (r : RunResult) → (copied x).answer ≡ passed r → AcceptsAt x
 
   -- 2. the steps after the first are made up: nothing of the image past its first instruction tells in them
   abbrev pub InventsLaterTrace : Type 0
@@ -142,7 +141,7 @@ module _ (program : Input → Observed) where
   -- 9. what is not set counts as 0: it accepts where the scalar runs with zeros in the other registers answer alike
   abbrev pub TakesUnsetAsZero : Type 0
   TakesUnsetAsZero =
-      (x : Input) (r : Result)
+      (x : Input) (r : RunResult)
       → ((i : ℕ) → x.range.first ≤ i → i ≤ x.range.last → scalar_answer x.image x.program i (λ _. 0) ≡ some r) → AcceptsAt x
 
   -- 10. the lent rows stay as they were

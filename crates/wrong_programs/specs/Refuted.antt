@@ -1,16 +1,12 @@
 -- The table of wrong programs (document 01, Conditions of acceptance), each with the inputs at which it breaks the contract: the run's, the library's,
 -- and the promises alone, over the invalid channels and over another range.
-use Rattle.std.specs.Prelude.{◌≡◌, false, ◌||◌, List, [], ◌∷◌, ℕ, ◌≤◌, eqb, take}
+use Rattle.std.specs.Prelude.{◌≡◌, false, ◌||◌, List, [], ◌∷◌, ℕ, ◌≤◌, eqb, take, Err, Ok, Result}
 use Rattle.std.proofs.Math.Option.{Option, none, some}
 use Rattle.little_endian.specs.Number.{AllBytes}
 use Rattle.lane_word.specs.declared.InputRange.{InputRange}
 use Rattle.lane_word.specs.Range.{invalid_channels}
-use Rattle.predicate_answer.specs.declared.CallVerdict.{CallVerdict}
-use Rattle.predicate_answer.specs.declared.CallVerdict.TheVariants as verdict
 use Rattle.predicate_answer.specs.declared.CompiledMmioEvent.{CompiledMmioEvent}
 use Rattle.predicate_answer.specs.declared.PredicateTransducerExecution.{PredicateTransducerExecution}
-use Rattle.predicate_answer.specs.declared.RecordAnswer.{RecordAnswer}
-use Rattle.predicate_answer.specs.declared.RecordAnswer.TheVariants as answer
 use Rattle.predicate_answer.specs.Refusal.{Refusal, number_of}
 use Rattle.predicate_semantics.specs.State.{result_read}
 use Rattle.predicate_semantics.specs.Tested as Tested
@@ -19,13 +15,15 @@ use Rattle.predicate_semantics.specs.Call.{run_of}
 use Rattle.lane_record.specs.Format.{Record, refused}
 use Rattle.lane_record.specs.Decode.{decode_record}
 use Rattle.lane_record.specs.Answers.{Said, done, wrote, refuses, accepted_given}
-use Rattle.riscv32imc_predicate.specs.declared.PredicateRun.{PredicateRun}
 use Rattle.riscv32imc_predicate.specs.Outcome.{Ran}
-use Rattle.lane_library.specs.declared.RunAnswer.{RunAnswer}
+use Rattle.lane_library.specs.declared.RunError.{RunError}
 use Rattle.lane_library.specs.Promise.{Promise}
 use Rattle.lane_library.specs.Outcome.{lent, ran_said, Runs}
 use Rattle.wrong_programs.specs.Inputs.{Input, call_at, twelve_channels, invalid_of_twelve, returns_input, returns_unset, returns1, returns0, jump_first, nop_first, stores_at_stop, stores_below, raises2, raises3, is_below12}
 use Rattle.wrong_programs.specs.Behaviours.{Observed, no_space_at_once, AcceptsAt, NamesRange, CopiesFirstInput, InventsLaterTrace, InventsWrittenBytes, RefusesWithSpaceLeft, NeverChanges, RefusesEachImage, LeavesEmpty, InventsEvents, TakesUnsetAsZero, LeavesRows, IgnoresRange}
+use Rattle.predicate_answer.specs.declared.CallError.{CallError}
+use Rattle.predicate_answer.specs.declared.RecordOutcome.{RecordOutcome}
+use Rattle.predicate_answer.specs.declared.RecordRefusal.{RecordRefusal}
 
 -- the lent rows and entries suffice for the run: it is refused neither with 13 nor with 14
 abbrev pub Suffices : Input → Type 0
@@ -92,22 +90,22 @@ module _ (Output : Type 0) (seen : Output → Observed) (Meets : Input → Outpu
 -- ---- the run, `execute_predicate`
 
 pub record RunOutput : Type 0 where
-  pub run : PredicateRun
+  pub run : Result RecordOutcome CallError
   pub rows : List ℕ
   pub trace : List ℕ
 
--- the record that an answer, numbers and events are, with the trace beside them; none of a refused call
-abbrev pub record_by : CallVerdict → RecordAnswer → PredicateTransducerExecution → List CompiledMmioEvent → List ℕ → Option Record
-record_by verdict.Passed answer.Accepted e es t = some (accepted_given e es t)
-record_by verdict.Passed (answer.Refused f) e es t = some (refused f)
-record_by (verdict.Refused x) a e es t = none
+-- the record that an answer, numbers and events are, with the trace beside them
+abbrev pub record_by : Result (Unit {0}) RecordRefusal → PredicateTransducerExecution → List CompiledMmioEvent → List ℕ → Record
+record_by (Ok tt) e es t = accepted_given e es t
+record_by (Err f) e es t = refused f
+
+-- that of a run; none of a refused call
+abbrev pub record_seen : Result RecordOutcome CallError → List ℕ → Option Record
+record_seen (Ok o) t = some (record_by o.answer o.execution o.events t)
+record_seen (Err x) t = none
 
 abbrev pub seen_of_run : RunOutput → Observed
-seen_of_run o = record {
-  recorded = record_by o.run.verdict o.run.outcome.answer o.run.outcome.execution o.run.outcome.events o.trace;
-  rows = o.rows;
-  trace = o.trace;
-}
+seen_of_run o = record { recorded = record_seen o.run o.trace; rows = o.rows; trace = o.trace }
 
 abbrev pub RunMeets : Input → RunOutput → Type 0
 RunMeets x o = Ran x.image x.program x.range x.rows x.trace o.run o.rows o.trace
@@ -118,9 +116,9 @@ RunRefuted = RefutedOverRanges RunOutput seen_of_run RunMeets
 -- its promise
 abbrev pub RunPromises : Input → RunOutput → Type 0
 RunPromises x o =
-    o.run.outcome.answer ≡ answer.Accepted
+    (outcome : RecordOutcome) → o.run ≡ Ok outcome → outcome.answer ≡ Ok tt
     → (input : ℕ) → x.range.first ≤ input → input ≤ x.range.last
-    → (others : ℕ → ℕ) → scalar_answer x.image x.program input others ≡ some (result_read o.run.outcome o.trace)
+    → (others : ℕ → ℕ) → scalar_answer x.image x.program input others ≡ some (result_read outcome o.trace)
 
 pub record RunPromiseRefuted : Type 0 where
   pub promised : (x : Input) (o : RunOutput) → RunMeets x o → RunPromises x o
@@ -137,7 +135,7 @@ written (refuses n) output = none
 
 -- what a function of the library answers, and the lent memory after it
 pub record LibraryOutput : Type 0 where
-  pub answer : RunAnswer
+  pub answer : Result ℕ RunError
   pub rows : List ℕ
   pub trace : List ℕ
   pub output : List ℕ

@@ -1,10 +1,7 @@
-use Rattle.std.proofs.Common.{◌-◌, take, drop}
-use Rattle.lane_word.specs.Word.{lanes}
-use Rattle.lane_memory.proofs.Loops.{Copying}
+use Rattle.std.proofs.Common.{◌≡◌, ◌+◌, get_or}
+use Rattle.lane_memory.specs.LentRows.{head_bytes}
+use Rattle.lane_word.proofs.Lanewise.{Done}
 use Rattle.lane_memory.proofs.read_lanes.Given as goal
 
-abbrev pub invariant-loop-k : goal.invariant-loop-k
-invariant-loop-k l = Copying (take lanes (drop l.first l.rows)) lanes l.values l.k
-
-abbrev pub decreases-loop-k : goal.decreases-loop-k
-decreases-loop-k l = lanes - l.k
+abbrev pub invariant-loop-lane : goal.invariant-loop-lane
+invariant-loop-lane l = Done (λ i z. z ≡ get_or l.row (head_bytes + i) 0) l.initial.value-items l.value-items l.lane

@@ -1,10 +1,9 @@
 use Rattle.std.proofs.Common.{rules, refl}
-use Rattle.lane_program.proofs.Laws.{roomy, answers_bytes, answers_failed}
+use Rattle.lane_program.proofs.Laws.{first_taken}
 use Rattle.lane_program.proofs.answer.Goals as goal
 
-pub returns-in-Bytes : goal.returns-in-Bytes
-returns-in-Bytes c =
-    answers_bytes c.in-Bytes.is (roomy c.args.input (search rules) c.with_room-count.ensures) c.run_program.ensures
+pub returns-in_default : goal.returns-in_default
+returns-in_default c = rw c.in_default.is (refl, refl)
 
-pub returns-in-Failed : goal.returns-in-Failed
-returns-in-Failed c = answers_failed c.args.input c.in-Failed.is refl
+pub returns : goal.returns
+returns c = rw c.in-Some.is (rw (c.min.ensures, first_taken c.in-Some.count c.args.input (search rules)) at c.run_program.ensures)

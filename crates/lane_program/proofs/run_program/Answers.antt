@@ -3,4 +3,7 @@ use Rattle.lane_program.proofs.Laws.{outputs}
 use Rattle.lane_program.proofs.run_program.Goals as goal
 
 pub returns : goal.returns
-returns c = outputs c.args.input.now refl c.run_input-answer.ensures c.written.ensures
+returns c =
+    outputs c.args.input.now refl c.run_input-answer.ensures c.unwrap_or.ensures
+    (record { bytes = c.run_input-answer.new.output; count = c.unwrap_or.result })
+    refl refl

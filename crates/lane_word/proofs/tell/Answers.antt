@@ -1,4 +1,4 @@
-use Rattle.std.proofs.Common.{refl, arith}
+use Rattle.std.proofs.Common.{◌≡◌, refl, arith, length}
 use Rattle.lane_word.specs.Word.{uniform_of}
 use Rattle.lane_word.proofs.Scan.{start, step, even, uneven, no_lanes}
 use Rattle.lane_word.proofs.tell.Goals as goal
@@ -7,13 +7,14 @@ pub returns-then-not-known : goal.returns-then-not-known
 unfolding uniform_of
 returns-then-not-known c = rw c.if-not-known.true
 
-pub returns-then-values-eq0 : goal.returns-then-values-eq0
+pub returns-then-is_empty : goal.returns-then-is_empty
 unfolding uniform_of
-returns-then-values-eq0 c =
-    let z = no_lanes c.args.values.now c.if-values-eq0.true in rw (c.if-not-known.false, z.1, z.0)
+returns-then-is_empty c =
+    let e : length c.args.values.now ≡ 0 = grind arith in
+    let z = no_lanes c.args.values.now e in rw (c.if-not-known.false, z.1, z.0)
 
 pub loop-k-init : goal.loop-k-init
-loop-k-init c = start c.args.values.now refl (omega arith)
+loop-k-init c = start c.args.values.now refl (grind arith)
 
 pub loop-k-preserved : goal.loop-k-preserved
 loop-k-preserved c = step c.loop-k.invariant c.if-values-k.false c.if-values-k-2.false

@@ -1,9 +1,6 @@
-use Rattle.std.proofs.Common.{◌≡◌, ◌+◌, ◌-◌, ◌*◌, ◌≤◌}
+use Rattle.std.proofs.Common.{◌≡◌, ◌+◌, ◌*◌, ◌≤◌}
 use Rattle.lane_word.specs.Word.{lanes}
 use Rattle.test_lane_memory.proofs.read_word.Given as goal
 
 abbrev pub invariant-loop-k : goal.invariant-loop-k
-invariant-loop-k l = (l.k ≤ l.width) × (l.compared ≡ (lanes + 1) * l.k) × (l.differing ≤ (lanes + 1) * l.k)
-
-abbrev pub decreases-loop-k : goal.decreases-loop-k
-decreases-loop-k l = l.width - l.k
+invariant-loop-k l = (l.tally.compared ≡ (lanes + 1) * l.k) × (l.tally.differing ≤ (lanes + 1) * l.k)

@@ -6,5 +6,5 @@ use Rattle.lane_exports.proofs.words.words_of.Goals as goal
 
 pub returns : goal.returns
 returns c =
-    rw (c.put_events.ensures, c.put_execution.ensures, c.put_answer.ensures)
+    rw (c.put_events.ensures, c.put-2.ensures, c.put.ensures, c.execution_words.ensures, c.answer_words.ensures)
     (outcome_put c.args.outcome (replicate outcome_size 0) (length-replicate {A = ℕ} outcome_size 0) (search (unmapped, rules)))

@@ -1,10 +1,9 @@
-use Rattle.std.proofs.Common.{drop}
 use Rattle.lane_record.specs.Decode.{kinds_are}
-use Rattle.lane_record.proofs.LoopLaws.{KindsLeft}
+use Rattle.lane_record.proofs.LoopLaws.{Kinds}
 use Rattle.lane_record.proofs.reader.kinds_are.Given as goal
 
-abbrev pub invariant-loop-left : goal.invariant-loop-left
-invariant-loop-left l = KindsLeft l.s l.kind l.z (kinds_are l.kind l.z l.n (drop l.from l.s)) l.at l.left
-
-abbrev pub decreases-loop-left : goal.decreases-loop-left
-decreases-loop-left l = l.left
+abbrev pub invariant-loop-item : goal.invariant-loop-item
+invariant-loop-item l =
+    (goal.iterator-loop-item).can_next l.item-iterator
+    × (goal.iterator-loop-item).is_finite l.item-iterator
+    × Kinds l.kind l.z (kinds_are l.kind l.z l.n l.items) l.item-iterator.iter.size l.item-iterator.iter.rest.now l.item-iterator.n

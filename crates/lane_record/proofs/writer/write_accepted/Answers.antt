@@ -2,15 +2,8 @@ use Rattle.std.proofs.Common.{◌≡◌, length, sym, rules, arith}
 use Rattle.predicate_answer.specs.Blank.{max_events}
 use Rattle.lane_record.specs.Answers.{accepted_given, given_accepted}
 use Rattle.lane_record.proofs.DecodeLaws.{steps_fit}
-use Rattle.lane_record.proofs.AnswerLaws.{writes_broken, writes_full, writes_done, given_out, given_in, passed, written}
+use Rattle.lane_record.proofs.AnswerLaws.{writes_full, writes_done, given_in, passed, written}
 use Rattle.lane_record.proofs.writer.write_accepted.Goals as goal
-
-pub returns-then-not-writable : goal.returns-then-not-writable
-returns-then-not-writable c =
-    let e = c.args.e in
-    let es = c.args.list in
-    let t = c.args.trace.now in
-    writes_broken (given_accepted e es t) c.args.output.now (given_out e es t (search rules) (sym c.if-not-writable.ensures))
 
 pub returns-then-output-size : goal.returns-then-output-size
 returns-then-output-size c =

@@ -1,7 +1,8 @@
 use Rattle.std.proofs.Common.{sym, ◌∙◌, rules}
+use Rattle.rv32_arithmetic.specs.Arithmetic.{srl}
 use Rattle.lane_word.proofs.Divisor.{shifted_lanes}
 use Rattle.lane_word.proofs.LaneWord.divu.Goals as goal
 
-pub returns-in-Places : goal.returns-in-Places
-returns-in-Places c =
-    c.map_unary.ensures ∙ shifted_lanes c.args.self c.args.right _ (search rules) (search rules) (sym c.common_power-power.ensures ∙ c.in-Places.is)
+pub returns-in-Some : goal.returns-in-Some
+returns-in-Some c =
+    c.map_unary.ensures (λ v. srl v c.in-Some.places) (λ v r p. search rules) ∙ shifted_lanes c.args.self c.args.right _ (search rules) (search rules) (sym c.in-Some.ensures)

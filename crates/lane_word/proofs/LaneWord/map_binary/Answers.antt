@@ -1,6 +1,6 @@
-use Rattle.lane_word.specs.Word.{binary}
+use Rattle.std.proofs.Common.{rules}
+use Rattle.lane_word.proofs.Lanewise.{binary_done}
 use Rattle.lane_word.proofs.LaneWord.map_binary.Goals as goal
 
 pub returns : goal.returns
-unfolding binary
-returns c = cc (c.zip_values.ensures, c.both.ensures)
+returns g c = λ operation computes. binary_done c.args.self c.args.right _ (search rules) (search rules) (search rules) (search rules) computes

@@ -1,6 +1,7 @@
-use Rattle.std.proofs.Common.{sym, ◌∙◌}
+use Rattle.std.proofs.Common.{inl, inr, sym, ap, ◌∙◌}
 use Rattle.lane_word.specs.Word.{lanes}
 use Rattle.lane_word.proofs.ToldLaws.{constant_size, binary_size}
+use Rattle.predicate_semantics.specs.Tested.{passed}
 use Rattle.riscv32imc_predicate.proofs.Execution.{nothing_is, literal_is, compute_is, immediate_is, jump_is, jump_to_is, branch_is, load_is, store_is}
 use Rattle.riscv32imc_predicate.proofs.decide.execute.Goals as goal
 
@@ -12,18 +13,17 @@ returns-in-Literal c = rw c.in-Literal.is (λ d s g left right o. sym (literal_i
 
 pub returns-in-Compute : goal.returns-in-Compute
 returns-in-Compute c =
-    rw c.in-Compute.is (
-      λ d s g left right o. c.compute.ensures.0 _ _ _ (binary_size _ left right o.left_size o.right_size) o.told ∙ sym (compute_is g _ o),
-      c.compute.ensures.1,
-    )
-
-pub returns-in-ComputeImmediate : goal.returns-in-ComputeImmediate
-returns-in-ComputeImmediate c =
-    rw c.in-ComputeImmediate.is (
-      λ d s g left right o.
-          c.compute-in-ComputeImmediate.ensures.0 _ _ _ (binary_size _ left _ o.left_size (constant_size lanes _)) o.told ∙ sym (immediate_is g _ o),
-      c.compute-in-ComputeImmediate.ensures.1,
-    )
+    elim c.in-Compute.is [
+      | inl h ↦ rw h.3 (
+        λ d s g left right o. ap passed (c.compute.ensures.0 _ _ _ (binary_size _ left right o.left_size o.right_size) o.told) ∙ sym (compute_is g _ o),
+        c.compute.ensures.1,
+      )
+      | inr h ↦ rw h.3 (
+        λ d s g left right o.
+            ap passed (c.compute.ensures.0 _ _ _ (binary_size _ left _ o.left_size (constant_size lanes _)) o.told) ∙ sym (immediate_is g _ o),
+        c.compute.ensures.1,
+      )
+    ]
 
 pub returns-in-Jump : goal.returns-in-Jump
 returns-in-Jump c = rw c.in-Jump.is (λ d s g left right o. sym (jump_is g _ _ _), tt)

@@ -1,66 +1,30 @@
--- The tests before any step, then the loop from the first state to where it ended.
-use Rattle.std.proofs.Common.{◌≡◌, refl, sym, ap, ◌∙◌, List, ℕ, length}
+-- The tests before any step, then the run from its first state.
+use Rattle.std.proofs.Common.{refl, sym}
 use Rattle.predicate_answer.specs.Refusal.{refusal_of, of_call}
-use Rattle.predicate_semantics.specs.Tested.{passed}
-use Rattle.predicate_semantics.specs.Call.{range_test}
-use Rattle.predicate_semantics.specs.Lane.{begin, start_tests}
-use Rattle.predicate_semantics.specs.Program.{stop, stop_word}
+use Rattle.predicate_semantics.specs.Lane.{begin}
 use Rattle.predicate_trace.specs.Trace.{put_entries}
-use Rattle.lane_memory.specs.Rows.{row_count, cleared, store_values}
-use Rattle.lane_memory.proofs.Laws.{cleared_store_value}
 use Rattle.riscv32imc_predicate.specs.Setting.{first_state}
-use Rattle.riscv32imc_predicate.proofs.Following.{sees}
-use Rattle.riscv32imc_predicate.proofs.Running.{run_refused_first, reports_refused, begin_arrives, runs_as, ended_refused, ended_arrived, never_paused, counts, events_low}
+use Rattle.riscv32imc_predicate.proofs.Running.{run_refused_first, reports_refused, runs_as}
 use Rattle.riscv32imc_predicate.proofs.outcome.run.Goals as goal
 
--- the stop word leaves the rows' bytes past the marks
-stop_stored : (rows : List ℕ) {rows' : List ℕ} → rows' ≡ store_values rows 4 stop stop_word → cleared rows' ≡ cleared rows
-stop_stored rows e = ap cleared e ∙ cleared_store_value rows 4 stop stop_word
+pub started-requires : goal.started-requires
+started-requires c = (c.requires, rw (← c.row_count-rows_lent.ensures, ← c.range_test.ensures) (sym c.in-Ok.ensures))
 
-pub finish-finished-requires : goal.finish-finished-requires
-finish-finished-requires c =
-    let a = c.args in
-    events_low (length a.image.now) a.program.symbols (range_test a.range) (row_count a.rows.now) (rw (← c.row_count.ensures, ← c.range_test-choice.ensures) (sym c.in-Passed.ensures))
-
-pub returns-in-Refused : goal.returns-in-Refused
+pub returns-in-Err-Run : goal.returns-in-Err-Run
 unfolding begin put_entries
-returns-in-Refused c x k =
-    let e = c.in-Refused.error in
-    runs_as k (run_refused_first k (refusal_of e) (rw (← c.row_count.ensures, ← c.range_test-choice.ensures) (sym c.in-Refused.ensures)))
-    (reports_refused c.args.range (first_state x) _ e 0 refl refl c.refused.ensures) (sym k.same_lent) refl
+returns-in-Err-Run c x k =
+    let e = c.in-Err-Run.error in
+    let t = rw c.in-Err-Run.field-0-is at c.in-Err-Run.ensures in
+    runs_as k (run_refused_first k (refusal_of e) (rw (← c.row_count-rows_lent.ensures, ← c.range_test.ensures) (sym t)))
+    (reports_refused c.args.range (first_state x) _ e 0 refl refl (rw c.in-Err-Run.field-0-is at c.refused.ensures)) (sym k.same_lent) refl
 
-pub returns-in-Declined : goal.returns-in-Declined
+pub returns-in-Err-Call : goal.returns-in-Err-Call
 unfolding begin put_entries
-returns-in-Declined c x k =
-    runs_as k (run_refused_first k (of_call c.in-Declined.error) (rw (← c.row_count.ensures, ← c.range_test-choice.ensures) (sym c.in-Declined.ensures)))
-    c.declined.ensures (sym k.same_lent) refl
+returns-in-Err-Call c x k =
+    let t = rw c.in-Err-Call.field-0-is at c.in-Err-Call.ensures in
+    rw c.in-Err-Call.field-0-is
+    (runs_as k (run_refused_first k (of_call c.in-Err-Call.error) (rw (← c.row_count-rows_lent.ensures, ← c.range_test.ensures) (sym t)))
+    refl (sym k.same_lent) refl)
 
-pub returns-in-Refused-ending : goal.returns-in-Refused-ending
-returns-in-Refused-ending c x k =
-    let o = c.args in
-    let t : start_tests (length o.image.now) o.program.symbols (range_test o.range) (row_count o.rows.now) ≡ passed tt
-    = rw (← c.row_count.ensures, ← c.range_test-choice.ensures) (sym c.in-Passed.ensures) in
-    let a = begin_arrives k t c.requires c.store_value.ensures c.start_place.ensures c.input_domain.ensures c.start_registers.ensures c.start_recorded.ensures c.whole_run-bounds.ensures c.advance-reached.ensures.advances in
-    let e = c.in-Refused-ending.error in
-    runs_as k (ended_refused k t a e c.in-Refused-ending.is)
-    (reports_refused o.range a.state _ e _ a.stands.tracks.same_steps refl c.refused-in-Refused-ending.ensures)
-    a.stands.tracks.traced (c.advance-reached.ensures.rows_unchanged ∙ stop_stored o.rows.now c.store_value.ensures)
-
-pub returns-in-Paused : goal.returns-in-Paused
-returns-in-Paused c x k =
-    let o = c.args in
-    let t : start_tests (length o.image.now) o.program.symbols (range_test o.range) (row_count o.rows.now) ≡ passed tt
-    = rw (← c.row_count.ensures, ← c.range_test-choice.ensures) (sym c.in-Passed.ensures) in
-    let a = begin_arrives k t c.requires c.store_value.ensures c.start_place.ensures c.input_domain.ensures c.start_registers.ensures c.start_recorded.ensures c.whole_run-bounds.ensures c.advance-reached.ensures.advances in
-    absurd (never_paused k t a c.in-Paused.is)
-
-pub returns-in-Arrived : goal.returns-in-Arrived
-returns-in-Arrived c x k =
-    let o = c.args in
-    let t : start_tests (length o.image.now) o.program.symbols (range_test o.range) (row_count o.rows.now) ≡ passed tt
-    = rw (← c.row_count.ensures, ← c.range_test-choice.ensures) (sym c.in-Passed.ensures) in
-    let a = begin_arrives k t c.requires c.store_value.ensures c.start_place.ensures c.input_domain.ensures c.start_registers.ensures c.start_recorded.ensures c.whole_run-bounds.ensures c.advance-reached.ensures.advances in
-    let f = c.finish-finished.ensures x a.state
-    (record { same_lanes = k.serves.same_lanes; same_symbols = k.serves.same_symbols; same_bytes = sees a.stands; keeps = a.stands.keeps }) (sym a.return_word) in
-    runs_as k (ended_arrived k t a c.in-Arrived.is) (c.answered.ensures x a.state (counts k t a) f)
-    a.stands.tracks.traced (c.advance-reached.ensures.rows_unchanged ∙ stop_stored o.rows.now c.store_value.ensures)
+pub returns-in-Ok : goal.returns-in-Ok
+returns-in-Ok c x k = c.started.ensures x k

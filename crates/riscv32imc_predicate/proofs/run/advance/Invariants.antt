@@ -7,13 +7,13 @@ use Rattle.riscv32imc_predicate.specs.Tracking.{Stands, machine}
 use Rattle.riscv32imc_predicate.proofs.Looping.{Looped}
 use Rattle.riscv32imc_predicate.proofs.run.advance.Given as goal
 
-abbrev pub invariant-loop-symbols : goal.invariant-loop-symbols
-invariant-loop-symbols l = record {
+abbrev pub invariant-loop-progress : goal.invariant-loop-progress
+invariant-loop-progress l = record {
   same_rows : cleared l.rows ≡ cleared l.fn.rows;
   comes :
       (c : Setting) (s : LaneState) → Stands c (environment l.image l.symbols l.bounds) (machine l.fn.first l.fn.start l.fn.kept l.fn.rows l.fn.trace) s
       → Looped c (environment l.image l.symbols l.bounds) s (machine l.place (record { words = l.words; tags = l.tags }) l.recorded l.rows l.trace) l.computed;
 }
 
-abbrev pub decreases-loop-symbols : goal.decreases-loop-symbols
-decreases-loop-symbols l = l.bounds.limit - l.place.steps
+abbrev pub decreases-loop-progress : goal.decreases-loop-progress
+decreases-loop-progress l = l.bounds.limit - l.place.steps

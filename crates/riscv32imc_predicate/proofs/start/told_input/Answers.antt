@@ -1,5 +1,5 @@
-use Rattle.riscv32imc_predicate.proofs.Filing.{one_input}
+use Rattle.riscv32imc_predicate.proofs.Filing.{one_told}
 use Rattle.riscv32imc_predicate.proofs.start.told_input.Goals as goal
 
-pub returns-then-range : goal.returns-then-range
-returns-then-range c = one_input c.args.range c.if-range.true
+pub returns : goal.returns
+returns c = rw (c.then_some.ensures, c.from.ensures) (one_told c.args.range)

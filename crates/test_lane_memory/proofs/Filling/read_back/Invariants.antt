@@ -1,0 +1,6 @@
+use Rattle.std.proofs.Common.{◌≡◌, ◌+◌, ◌*◌, ◌≤◌}
+use Rattle.lane_word.specs.Word.{lanes}
+use Rattle.test_lane_memory.proofs.Filling.read_back.Given as goal
+
+abbrev pub invariant-loop-k : goal.invariant-loop-k
+invariant-loop-k g l = (l.tally.compared ≡ (lanes + 1) * l.k) × (l.tally.differing ≤ (lanes + 1) * l.k)

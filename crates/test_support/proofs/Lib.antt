@@ -1,2 +1,0 @@
--- Laws that the answers for the functions cite.
-mod Laws
