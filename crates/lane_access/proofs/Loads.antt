@@ -48,6 +48,16 @@ agreed_is role w = refl
 pub agreed_constant : (role v : ℕ) → agreed role (constant lanes v) ≡ passed v
 agreed_constant role v = agreed_is role (constant lanes v) ∙ ap (agreed_as role) (uniform_constant lanes v (omega arith))
 
+-- the byte by a test of where it lies
+module _ (image rows : List ℕ) (a : ℕ) {b : Bool} (is : b ≡ ltb (offset_of a) (length image)) where
+  pub seen_within : b ≡ true → seen image rows a ≡ constant lanes (initial image a)
+  unfolding seen
+  seen_within h = rw (sym is ∙ h)
+
+  pub seen_past : b ≡ false → seen image rows a ≡ load_byte rows a 0
+  unfolding seen
+  seen_past h = rw (sym is ∙ h)
+
 -- from memory's first byte on, memory starts with the image's bytes
 initial_at : (image : List ℕ) (a : ℕ) → image_base ≤ a → initial image a ≡ get_or image (offset_of a) 0
 unfolding initial
@@ -241,6 +251,10 @@ told_image image rows h (suc n) a k l f =
     let ih : told_read (told_seen image rows) n (suc a) ≡ Some (value rest)
     = rw e at (told_image image rows h n (suc a) (omega arith) (omega arith) (omega arith)) in
     rw (lt-ltb o (length image) (omega arith), ih, initial_at image a l, j, drop-cons image o 0 (omega arith))
+
+-- a number lies there where as many bytes are left from its offset on
+pub lies_left : {image : List ℕ} {a o v n : ℕ} → n ≤ 4 → o ≡ offset_of a → o < length image → leb n (length image - o) ≡ true → v ≡ value (take n (drop o image)) → Lies v image a n
+lies_left {image} {a} {o} {v} {n} k e h b is = record { small = k; fits = omega (arith, e, h, leb-true n (length image - o) b); is = rw (← e) is }
 
 pub lies_told : (image rows : List ℕ) → AllBytes image → (v n a : ℕ) → image_base ≤ a → Lies v image a n → Some v ≡ told_read (told_seen image rows) n a
 lies_told image rows h v n a l f = ap Some f.is ∙ sym (told_image image rows h n a f.small l f.fits)

@@ -6,12 +6,13 @@ use mathlib.Core.Option.{Option}
 use Prim.Native.Nat.{ℕ, zero, suc, ◌+◌, ◌*◌, ◌-◌, ◌≤◌, ◌<◌}
 use native.Mathlib.Omega.{arith}
 use native.Mathlib.Numerals.{add-one}
-use lib.ListN.{length, take, drop, set, length-set, length-append, length-map, drop_of_length-le}
+use native.Mathlib.Nat.{add-zero}
+use lib.ListN.{length, get_or, take, drop, set, length-set, length-append, length-map, drop_of_length-le}
 use Rattle.std.proofs.Common.{append_assoc}
 use Rattle.std.proofs.lemmas.Slice.{put_mid-paste}
 use Rattle.std.proofs.lemmas.List.Edits.{paste_all, sets-eq}
 use borrow.Rule.Slice.PartMut.{put_mid}
-use lib.Seq.{sets, drop-drop}
+use lib.Seq.{sets, drop-drop, get_or-drop}
 use Rattle.little_endian.proofs.SetLaws.{sets_append, sets_step, sets_over}
 use Rattle.predicate_answer.specs.declared.CompiledMmioEvent.{CompiledMmioEvent}
 use Rattle.predicate_answer.specs.Blank.{max_events}
@@ -60,6 +61,10 @@ outcome_put o l h n =
     ∙ whole (A ++ (B ++ C)) l (omega (arith, a, length-append A (B ++ C), length_words o.events, n, h))
 
 -- ---- words as an outcome
+
+pub event_words_law : (ws : List ℕ) (at : ℕ)
+    → ◌≡◌ {A = CompiledMmioEvent} (record { operation = get_or ws at 0; offset = get_or ws (at + 1) 0; value = get_or ws (at + 2) 0; location = get_or ws (at + 3) 0 }) (event_from (drop at ws))
+event_words_law ws at = rw (get_or-drop at ws 0 0, get_or-drop at ws 1 0, get_or-drop at ws 2 0, get_or-drop at ws 3 0, add-zero at)
 
 length_from : (n : ℕ) (ws : List ℕ) → length (events_from n ws) ≡ n
 length_from zero ws = refl

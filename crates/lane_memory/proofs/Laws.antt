@@ -1,9 +1,10 @@
 -- The laws that callers cite: when rows hold a memory, what the functions make of it. Assumes nothing.
 use Rattle.std.specs.Prelude.{Option, None, Some}
-use Rattle.std.proofs.Common.{◌≡◌, ℕ, zero, suc, ◌+◌, ◌*◌, ◌/◌, ◌%◌, ◌^◌, ◌<◌, ◌≤◌, Bool, true, false, cond, ◌&&◌, eqb, ◌⊎◌, List, [], length, get_or, take, drop, replicate, sym, refl, ap, ◌∙◌, subst, inl, inr, ⊎_elim, mod-eq_of_lt, arith, length-set, get_or-set_other, get_or-set_same, drop-set-lt, eq-eqb, ne_eqb}
+use Rattle.std.proofs.Common.{◌≡◌, ℕ, zero, suc, ◌+◌, ◌*◌, ◌/◌, ◌%◌, ◌^◌, ◌<◌, ◌≤◌, Bool, true, false, cond, ◌&&◌, eqb, ◌⊎◌, List, [], ◌++◌, length, get_or, take, drop, replicate, sym, refl, ap, ◌∙◌, subst, inl, inr, ⊎_elim, mod-eq_of_lt, arith, length-append, length-drop, length-set, get_or-set_other, get_or-set_same, drop-set-lt, eq-eqb, ne_eqb}
 use Rattle.std.proofs.lemmas.Bool.{cases_eq}
 use mathlib.Core.Option.{none, some}
 use lib.Arith.{lt_of_le-ne}
+use lib.ListN.{length-replicate, get_or-replicate, get_or-append}
 use Rattle.little_endian.specs.Number.{value, AllBytes}
 use Rattle.little_endian.proofs.NumberLaws.{below_take, below_drop}
 use Rattle.rv32_arithmetic.specs.Bits.{byte_of, join}
@@ -140,6 +141,16 @@ free_row : (l : List ℕ) (s : ℕ) → get_or l (s * row_bytes) 0 ≡ 0 → hel
 unfolding held
 free_row l s e = rw (row_first l s ∙ e)
 
+zero_row : (k s : ℕ) (r : List ℕ) → s * row_bytes < k → held (replicate k 0 ++ r) s ≡ none
+zero_row k s r h =
+    free_row (replicate k 0 ++ r) s
+    (get_or-append (replicate k 0) r 0 (s * row_bytes) (omega (arith, length-replicate {A = ℕ} k 0)) ∙ get_or-replicate {A = ℕ} k (s * row_bytes) 0 0 h)
+
+pub cleared_long : (l : List ℕ) → length (cleared l) ≡ length l
+cleared_long l =
+    length-append (replicate (row_count l * row_bytes) 0) (drop (row_count l * row_bytes) l)
+    ∙ omega (arith, length-replicate {A = ℕ} (row_count l * row_bytes) 0, length-drop (row_count l * row_bytes) l)
+
 -- ---- unmarking
 
 unmark_long : (n : ℕ) (l : List ℕ) → length (unmark_rows n l) ≡ length l
@@ -182,6 +193,13 @@ unmarked_holds l =
 -- ---- the rows hold a memory
 
 module _ {l : List ℕ} {n : ℕ} {m : List Written} (h : Holds l n m) where
+  -- one row for an address
+  pub one_row : (a s t : ℕ) → Has (held l s) a → Has (held l t) a → s < n → t < n → s ≡ t
+  one_row a s t i j p q =
+      let x : find_in (held l) n a ≡ At s = rw i.its at (h.table.finds s i.what p i.is) in
+      let y : find_in (held l) n a ≡ At t = rw j.its at (h.table.finds t j.what q j.is) in
+      cc
+
   -- a load gives what the memory has
   held_byte : (s : ℕ) (w : Written) → held l s ≡ some w → row_byte (row_at l s) ≡ w.byte
   unfolding held

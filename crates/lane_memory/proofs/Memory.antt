@@ -93,6 +93,15 @@ lookup_write (suc n) a w m x h =
 -- ---- how many rows are used
 
 module _ (T : ℕ → Option Written) where
+  pub used_most : (n : ℕ) → used T n ≤ n
+  unfolding used
+  used_most zero = omega arith
+  used_most (suc n) = go (T n) (used_most n)
+    where
+      go : (o : Option Written) → used T n ≤ n → one o + used T n ≤ suc n
+      go none k = omega arith
+      go (some w) k = omega arith
+
   pub used_all : (n : ℕ) → ((s : ℕ) → s < n → one (T s) ≡ 1) → used T n ≡ n
   unfolding used
   used_all zero f = refl

@@ -31,6 +31,13 @@ part_take i n N l h =
     let e : i + (N - i) ≡ N = omega arith in
     (rw e at (ap (λ (r : List ℕ). take n r) (drop-take i (N - i) l))) ∙ take-take n (N - i) (drop i l) (omega arith)
 
+module _ (l : List ℕ) (s : ℕ) where
+  pub row_part : (i n : ℕ) → i + n ≤ row_bytes → take n (drop i (row_at l s)) ≡ take n (drop (s * row_bytes + i) l)
+  row_part i n h = part_take i n row_bytes (drop (s * row_bytes) l) h ∙ ap (λ (r : List ℕ). take n r) (drop-drop i (s * row_bytes) l)
+
+  pub row_at_place : (i : ℕ) → i < row_bytes → get_or (row_at l s) i 0 ≡ get_or l (s * row_bytes + i) 0
+  row_at_place i h = get_or-take row_bytes (drop (s * row_bytes) l) i 0 h ∙ get_or-drop (s * row_bytes) l i 0
+
 pub row_first : (l : List ℕ) (s : ℕ) → get_or (row_at l s) 0 0 ≡ get_or l (s * row_bytes) 0
 row_first l s = get_or-take row_bytes (drop (s * row_bytes) l) 0 0 (omega arith) ∙ get_or-drop (s * row_bytes) l 0 0 ∙ ap (λ (k : ℕ). get_or l k 0) (add-zero (s * row_bytes))
 

@@ -2,14 +2,17 @@
 use Rattle.std.proofs.Common.{◌≡◌, ℕ, zero, suc, ◌+◌, ◌-◌, ◌<◌, ◌≤◌, Bool, true, false, cond, ltb, ◌⊎◌, refl, subst, inl, inr, ⊎_elim, arith, le-ltb, lt-ltb}
 use Rattle.std.proofs.lemmas.Bool.{cases_eq, cases_lt}
 use Rattle.std.proofs.lemmas.Bool.Decides.{nat_tests}
-use Rattle.lane_memory.specs.Search.{next, onward, ending, scan, hops, tries}
+use Rattle.lane_memory.specs.Search.{next, stride, onward, ending, scan, hops, tries}
 use Rattle.lane_memory.specs.declared.Probe.{Probe}
 use Rattle.lane_memory.specs.declared.Probe.TheVariants.{Empty, Match, Other}
 use Rattle.lane_memory.specs.declared.Found.{Found}
 use Rattle.lane_memory.specs.declared.Found.TheVariants.{At, Free, Full}
 
-next_below : (n s : ℕ) → s < n → next n s < n
+pub next_below : (n s : ℕ) → s < n → next n s < n
 next_below n s h = grind (arith, nat_tests)
+
+pub stride_most : (n : ℕ) → stride n ≤ n
+stride_most n = omega arith
 
 pub onward_below : (n j s : ℕ) → s < n → onward n j s < n
 onward_below n j s h = grind (arith, nat_tests)

@@ -1,5 +1,5 @@
 -- With the program's rows, entries and output every input's record is written, never 16. Assumes nothing.
-use Rattle.std.specs.Prelude.{Err, Ok, Result}
+use Rattle.std.specs.Prelude.{Err, None, Ok, Option, Result, Some}
 use Rattle.std.specs.Result.{result_unwrap_or}
 use mathlib.Core.Path.{◌≡◌, refl, ap, ◌∙◌}
 use mathlib.Core.Bool.{true}
@@ -25,7 +25,7 @@ use Rattle.lane_library.specs.Outcome.{ran_said, count, record_bytes, LentMemory
 use Rattle.lane_library.proofs.Promise.{record_fits}
 use Rattle.lane_library.proofs.Laws.{always_recorded}
 use Rattle.lane_program.specs.declared.output.ProgramOutput.{ProgramOutput}
-use Rattle.lane_program.specs.Program.{input_bytes, program_lends, program_call, Outputs, RecordWritten}
+use Rattle.lane_program.specs.Program.{input_bytes, program_lends, program_call, Outputs, RecordWritten, Answers}
 
 -- the program's call has a record, and its output has room for it
 record Writable (input : List ℕ) : Type 0 where
@@ -53,7 +53,7 @@ module _ (input : List ℕ) {a : Result ℕ RunError} {after : LentMemory} (h : 
   left = h.output ∙ rw (f.is_record, f.room)
 
 -- the answer is what the writer wrote
-written_by : (a : Result ℕ RunError) (n : ℕ) → ran_said a ≡ wrote n → a ≡ Ok n
+pub written_by : (a : Result ℕ RunError) (n : ℕ) → ran_said a ≡ wrote n → a ≡ Ok n
 written_by (Ok k) n e = cc
 written_by (Err x) n e = let z : ◌≡◌ {A = ℕ} 0 1 = cc in absurd (omega arith)
 
@@ -82,3 +82,11 @@ record_written input r (rows, trace, h) =
 -- as many of n bytes as there is room for are the first n, or all
 pub first_taken : (n : ℕ) (input : List ℕ) → length input ≡ input_bytes → take (min n input_bytes) input ≡ take n input
 first_taken n input l = rw (← l) (take_min n input)
+
+-- what the program answers is no longer than the longest record
+pub answer_fits : (x : Option ℕ) (input : List ℕ) (r : ProgramOutput) → Answers x input r → r.count ≤ record_bytes program_entries
+answer_fits (Some n) input r o =
+    let f = writable (take n input) in
+    let e : r.count ≡ length (encode f.written) = ap count (said (take n input) o.2) in
+    omega (arith, e, leb-true (length (encode f.written)) (record_bytes program_entries) f.room)
+answer_fits None input r o = omega (arith, o.0)

@@ -1,16 +1,17 @@
 -- Loops over items: what is left to do, with what is left of the bytes, is what there was to do. Assumes nothing.
 use mathlib.Core.Path.{◌≡◌, refl, ap, sym, ◌∙◌, subst}
 use mathlib.Core.Bool.{Bool, true, false, ◌&&◌, ◌||◌, and-true, and_assoc}
-use mathlib.Core.List.{List, [], ◌∷◌, ◌++◌, map}
+use mathlib.Core.List.{List, [], ◌∷◌, ◌++◌, map, append_assoc, append-nil}
 use Prim.Native.Nat.{ℕ, zero, suc, ◌+◌, ◌-◌, ◌*◌, ◌≤◌, ◌<◌}
 use native.Mathlib.Numerals.{add-one}
 use native.Mathlib.Nat.{suc-mul}
 use native.Mathlib.Omega.{arith}
 use lib.Dec.{eqb}
 use lib.ListN.{length, get_or, take, drop, set, length-set, length-append, length-drop}
-use lib.Seq.{sets, drop-cons, drop_at, take_all}
+use lib.Seq.{sets, sets-eq, drop-cons, drop-drop, drop_at, take_all}
 use borrow.Author.Tests.{eq-eqb, ne_eqb}
-use Rattle.std.proofs.lemmas.List.{take-append-le, drop-append-le}
+use borrow.Rule.Slice.PartMut.{put_mid, Post-is}
+use Rattle.std.proofs.lemmas.List.{take-append-le, drop-append-le, drop_all}
 use Rattle.little_endian.specs.Number as number
 use Rattle.little_endian.specs.Pack.{total, pack, unpack, packs, unpacks, Fits, AllFit}
 use Rattle.little_endian.proofs.SetLaws.{sets_step}
@@ -96,6 +97,22 @@ module _ {m z : ℕ} {b : Bool} {w : ℕ} {s : List ℕ} {left : ℕ} (t : Kinds
     }
 
 -- ---- steps
+steps_suc : (p n : ℕ) (bs : List ℕ) → 0 < n → steps_at p n bs ≡ step_of (unpack step_widths (drop p bs)) ∷ steps_at p (n - 1) (drop (p + entry_bytes) bs)
+steps_suc p zero bs h = absurd (omega arith)
+steps_suc p (suc n) bs h = let e : suc n - 1 ≡ n = omega arith in rw e
+
+-- n steps of s from at on begin with the one that is read there
+pub steps_next : (s : List ℕ) (at p n : ℕ) (x : PredicateControlStep) → x ≡ step_of (unpack step_widths (drop (at + p) s)) → 0 < n
+    → steps_at p n (drop at s) ≡ x ∷ steps_at p (n - 1) (drop (at + (p + entry_bytes)) s)
+steps_next s at p n x e h =
+    steps_suc p n (drop at s) h
+    ∙ ap (λ (y : List ℕ). step_of (unpack step_widths y) ∷ steps_at p (n - 1) (drop (p + entry_bytes) (drop at s))) (drop-drop p at s)
+    ∙ ap (λ (y : PredicateControlStep). y ∷ steps_at p (n - 1) (drop (p + entry_bytes) (drop at s))) (sym e)
+    ∙ ap (λ (y : List ℕ). x ∷ steps_at p (n - 1) y) (drop-drop (p + entry_bytes) at s)
+
+pub begins_some : (s : List ℕ) (at p n : ℕ) → 0 < n → number.value (take 4 (drop (at + p) s)) ≡ begins stop (steps_at p n (drop at s))
+begins_some s at p n h = sym (ap (begins stop) (steps_next s at p n _ refl h))
+
 -- the counter that is due comes, and so on to stop
 abbrev pub due_linked : ℕ → List PredicateControlStep → Bool
 due_linked d [] = eqb d stop
@@ -144,6 +161,14 @@ module _ {p : ℕ} {b : Bool} {z : ℕ} {s : List ℕ} {left due : ℕ} (t : Lin
 
     pub linking_step : {z' : ℕ} → follows y due ≡ true → z' ≡ p + entry_bytes → Linking p b z' u m y.next_program_counter
     linking_step e w = record { width = w; fits = left_room n t.fits; rest = linking_next ∙ rw e }
+
+-- all bytes of a slice written
+pub sets_whole : (s v : List ℕ) → length v ≡ length s → sets s 0 v ≡ v
+sets_whole s v e = rw (sets-eq v s 0 (omega (arith, e)), drop_all (0 + length v) s (omega (arith, e)), append-nil)
+
+-- a part written, and put back at its place
+pub part_put : (s v : List ℕ) (at e : ℕ) → at + length v ≡ e → e ≤ length s → put_mid at (e - at) s v ≡ sets s at v
+part_put s v at e q h = rw (Post-is at e s (omega (arith, q)), ← q, sets-eq v s at (omega (arith, q, h)), append_assoc)
 
 -- steps from one place to another: each is read after p other bytes and written after the bytes pre
 pub record Moving (pre : List ℕ) (p : ℕ) (final : List ℕ) (len z : ℕ) (t s : List ℕ) (left at : ℕ) : Type 0 where

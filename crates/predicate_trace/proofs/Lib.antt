@@ -1,2 +1,3 @@
 -- What is proved of a trace's bytes.
+mod Entry
 pub mod TraceLaws

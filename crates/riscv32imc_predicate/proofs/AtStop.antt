@@ -1,7 +1,7 @@
 -- At stop: the numbers that the code reads one after another make the semantics' answer. Assumes nothing.
 use Rattle.std.specs.Prelude.{Ok}
 use mathlib.Core.List.{List, [], ◌∷◌, ◌++◌}
-use mathlib.Core.Path.{◌≡◌, sym, ap, ◌∙◌}
+use mathlib.Core.Path.{◌≡◌, refl, sym, ap, ◌∙◌}
 use Prim.Native.Nat.{ℕ, suc, ◌+◌, ◌*◌, ◌≤◌, ◌<◌}
 use native.Mathlib.Numerals.{add-one}
 use native.Mathlib.Omega.{arith}
@@ -40,6 +40,10 @@ pub record Filling (image rows : List ℕ) (from count : ℕ) (locations : List 
   pub counted : length done ≡ i
   pub filled : es ≡ over done no_events
   pub rest : events_seen image rows from 0 [] (take count locations) ≡ events_seen image rows from i done (drop i (take count locations))
+
+pub filling_start : (image rows : List ℕ) (from count : ℕ) (locations : List ℕ) {es : List CompiledMmioEvent}
+    → count ≤ max_events → length locations ≡ max_events → es ≡ no_events → Filling image rows from count locations es 0
+filling_start image rows from count locations h k e = record { room = h; enough = k; done = []; counted = refl; filled = e; rest = refl }
 
 module _ {image rows : List ℕ} {from count : ℕ} {locations : List ℕ} {es : List CompiledMmioEvent} {i : ℕ} (f : Filling image rows from count locations es i) where
   -- the next event
@@ -103,7 +107,7 @@ module _ {image : List ℕ} {symbols : Rv32SymbolLayout} {rows : List ℕ} {kept
 
     -- ---- return value and count are known
     module _ (count : ℕ) (f : passed count ≡ counted) where
-      both_known : finish c.program c.setup s ≡ finish_events c.program c.setup s value count
+      pub both_known : finish c.program c.setup s ≡ finish_events c.program c.setup s value count
       unfolding ◌>>=◌
       both_known = numbers ∙ rw (← e, ← f)
 

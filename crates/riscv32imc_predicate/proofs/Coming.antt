@@ -1,12 +1,12 @@
 -- What comes at a place: stop, the pause, the limit, a refused fetch, or a fetched instruction. Assumes nothing.
-use Rattle.std.specs.Prelude.{Err, Ok}
+use Rattle.std.specs.Prelude.{Err, Ok, Result}
 use mathlib.Core.Path.{◌≡◌, refl, sym, ap, ◌∙◌}
 use mathlib.Core.Bool.{false}
 use mathlib.Core.List.{List}
 use Prim.Native.Nat.{ℕ, suc, ◌-◌, ◌≤◌, ◌<◌}
 use native.Mathlib.Omega.{arith}
 use lib.Dec.{eqb}
-use borrow.Author.Tests.{ne_eqb}
+use borrow.Author.Tests.{eq-eqb, ne_eqb}
 use Rattle.riscv_decode.specs.declared.Fetched.{Fetched}
 use Rattle.lane_word.specs.Word.{lanes}
 use Rattle.predicate_semantics.specs.declared.Rv32SymbolLayout.{Rv32SymbolLayout}
@@ -62,9 +62,15 @@ module _ (image rows : List ℕ) (bounds : Bounds) (place : Place) where
   ends : (q : Ending) → EndsBy q → Readied image rows bounds place (Err q)
   ends q h = record { comes = h; below = tt; reads = tt }
 
+  pub comes_stop : {r : Result Progress Ending} → r ≡ Err ending.Arrived → place.pc ≡ stop → Readied image rows bounds place r
+  comes_stop e h = rw e (ends ending.Arrived (λ c symbols v s a. eq-eqb _ _ (sym a.at_pc ∙ h)))
+
   module _ (moving : place.pc ≡ stop → ⊥) where
     off_stop : (s : LaneState) → place.pc ≡ s.pc → eqb s.pc stop ≡ false
     off_stop s a = ne_eqb _ _ (λ q. moving (a ∙ q))
+
+    pub comes_pause : {r : Result Progress Ending} → r ≡ Err ending.Paused → place.steps ≡ bounds.pause → Readied image rows bounds place r
+    comes_pause e h = rw e (ends ending.Paused (λ c symbols v s a. (off_stop s a.at_pc, sym a.at_steps ∙ h)))
 
     pub comes_limit : bounds.limit ≤ place.steps → Readied image rows bounds place (Err (ending.Refused error.StepLimit))
     unfolding refuse

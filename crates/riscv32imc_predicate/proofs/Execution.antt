@@ -25,11 +25,17 @@ use Rattle.predicate_semantics.specs.Tested.{Tested, passed, refused, ◌>>=◌,
 use Rattle.predicate_semantics.specs.Lane.{LaneState, reg, inside, agreed_as, agreed, access, room_for, execute}
 use Rattle.lane_memory.specs.Rows.{row_count, new_bytes}
 use Rattle.lane_access.specs.Seen.{seen}
+use Rattle.lane_access.specs.Answers.{tested_of}
+use Rattle.predicate_answer.specs.declared.Rv32Error.{Rv32Error}
 use Rattle.lane_access.proofs.Laws.{inside_fits, agreed_is}
 use Rattle.riscv32imc_predicate.specs.Setting.{Setting}
 use Rattle.riscv32imc_predicate.specs.Changes.{Given, Sources}
 use Rattle.riscv32imc_predicate.proofs.LaneCount.{lane_count}
 use Rattle.lane_word.specs.declared.UniformError.{UniformError}
+
+-- a verdict is what the code matched it with
+pub verdict_is : {r v : Result (Unit {0}) Rv32Error} {t : Tested (Unit {0})} → r ≡ v → tested_of r ≡ t → t ≡ tested_of v
+verdict_is e h = sym h ∙ ap tested_of e
 
 -- a uniform test of a computed word, by what is told of it
 tested_both : (role : ℕ) (u : Result ℕ UniformError) (f : ℕ → ℕ → ℕ) (left right : LaneWord) → u ≡ uniform_of (binary f left right)

@@ -189,6 +189,10 @@ pub laid_other : (words : List LaneWord) (u : Option ℕ) (k own : ℕ) (d : Lan
 laid_other words (Some v) k own d n = get_or-set_other words own k (constant lanes v) d n
 laid_other words None k own d n = refl
 
+pub place_below : (u : Option ℕ) (k own : ℕ) → k < places → own < places → place_of u k own < places
+place_below (Some v) k own a b = b
+place_below None k own a b = a
+
 pub place_apart : (u : Option ℕ) (k : ℕ) → k < register_count → place_of u k first_operand ≡ second_operand → ⊥
 place_apart (Some v) k a e = omega arith
 place_apart None k a e = omega arith
@@ -213,7 +217,7 @@ unfolding unknown
 unknown_size n = length-replicate n 0
 
 -- one input is in every lane
-one_input : (range : InputRange) → range.first ≡ range.last → constant lanes range.first ≡ domain (lane_inputs range)
+pub one_input : (range : InputRange) → range.first ≡ range.last → constant lanes range.first ≡ domain (lane_inputs range)
 unfolding constant domain lane_inputs inputs
 one_input range e = let one : input_count range ≡ 1 = omega (arith, e) in rw one refl
 

@@ -3,7 +3,8 @@ use Rattle.std.specs.Prelude.{Err, None, Ok, Option, Result, Some, ℕ}
 use mathlib.Core.Path.{◌≡◌, refl, sym, ap, ◌∙◌, subst}
 use mathlib.Core.Option.{some}
 use mathlib.Core.List.{List}
-use Prim.Native.Nat.{ℕ, suc, ◌≤◌, ◌<◌}
+use Prim.Native.Nat.{ℕ, suc, ◌+◌, ◌-◌, ◌^◌, ◌≤◌, ◌<◌}
+use native.Mathlib.Nat.{mod-eq_of_lt}
 use native.Mathlib.Omega.{arith}
 use lib.ListN.{length, get_or, set}
 use Rattle.rv32_arithmetic.specs.Value.{value_of}
@@ -27,6 +28,7 @@ use Rattle.riscv32imc_predicate.specs.declared.Change.TheVariants as change
 use Rattle.riscv32imc_predicate.specs.declared.Step.{Step}
 use Rattle.riscv32imc_predicate.specs.declared.Ending.{Ending}
 use Rattle.riscv32imc_predicate.specs.declared.Ending.TheVariants as ending
+use Rattle.riscv32imc_predicate.specs.declared.Place.{Place}
 use Rattle.riscv32imc_predicate.specs.declared.Progress.{Progress}
 use Rattle.riscv32imc_predicate.specs.declared.Reached.{Reached}
 use Rattle.riscv32imc_predicate.specs.declared.Recorded.{Recorded}
@@ -134,6 +136,11 @@ applied_rows g progress word (change.Stores at n) a b new h = h.2.same_rows
 pub stores_as : {rows : List ℕ} {a n : ℕ} {z x : LaneWord} {new new' : ℕ} {rows₁ rows₂ : List ℕ} → Stores rows a n z new rows₁
     → new' ≡ new → rows₂ ≡ rows₁ → z ≡ x → Stores rows a n x new' rows₂
 stores_as o e f g = rw (e, f, ← g) o
+
+-- a completed step leaves fewer
+pub fewer_left : {m : Machine} {progress : Progress} {next new : ℕ} {place : Place} {trace : List ℕ} {limit : ℕ} → Completes m progress next new place trace
+    → m.place.steps < limit → limit < 2 ^ 32 → limit - place.steps < limit - m.place.steps
+fewer_left {m} o h s = omega (arith, ap (λ (x : Place). x.steps) o.moves ∙ mod-eq_of_lt {n = m.place.steps + 1} (omega (arith, h, s)), h)
 
 -- ---- a turn, from a fetched instruction
 

@@ -3,12 +3,12 @@ use Rattle.std.specs.Prelude.{Ok, Result}
 use mathlib.Core.Path.{◌≡◌, refl, sym, ap, ◌∙◌, subst}
 use mathlib.Core.Bool.{Bool, true, false, ◌&&◌}
 use mathlib.Core.List.{List, []}
-use Prim.Native.Nat.{ℕ, ◌+◌, ◌-◌, ◌*◌, ◌%◌, ◌^◌, ◌≤◌, ◌<◌}
+use Prim.Native.Nat.{ℕ, zero, suc, ◌+◌, ◌-◌, ◌*◌, ◌%◌, ◌^◌, ◌≤◌, ◌<◌}
 use native.Mathlib.Nat.{mod-eq_of_lt, mul-le-mul_right}
 use native.Mathlib.Omega.{arith}
 use lib.Dec.{leb, ltb}
 use lib.ListN.{length}
-use borrow.Author.Tests.{ltb-true}
+use borrow.Author.Tests.{lt-ltb, ltb-true}
 use Rattle.little_endian.specs.Lent.{over}
 use Rattle.rv32_arithmetic.specs.Arithmetic.{mul}
 use Rattle.riscv32imc.specs.Constants.{image_base}
@@ -55,6 +55,10 @@ use Rattle.riscv32imc_predicate.specs.Tracking.{machine, Stands, Arrives, Advanc
 use Rattle.riscv32imc_predicate.specs.Reporting.{refused_run, reported, Counts, whole, never, whole_run, Calls, Reports}
 use Rattle.riscv32imc_predicate.proofs.LaneCount.{lane_count}
 use Rattle.predicate_answer.specs.declared.CallError.{CallError}
+
+pub positive : (n : ℕ) → (n ≡ 0 → ⊥) → ltb 0 n ≡ true
+positive zero h = absurd (h refl)
+positive (suc n) h = lt-ltb 0 (suc n) (omega arith)
 
 -- ---- what is reported of an answer
 

@@ -9,12 +9,12 @@ use native.Mathlib.Omega.{arith}
 use borrow.Author.Tests.{eq-eqb, ne_eqb}
 use lib.Arith.{bin_ind, digits_mod}
 use lib.Bits.{bit_and, and_step, and_comm, and_shr}
-use lib.Dec.{T, eqb, eqb→eq, T_not}
+use lib.Dec.{T, eqb, ltb, eqb→eq, ltb→lt, T_not}
 use lib.Ieee.Fits.{and_l, and_r}
 use lib.ListN.{length, get_or}
 use mir.Facts.{yes_eqb}
 use Rattle.riscv_decode.specs.declared.Row.{Row}
-use Rattle.riscv_decode.specs.Listing.{listing, fixed}
+use Rattle.riscv_decode.specs.Listing.{operation_count, listing, fixed}
 use Rattle.riscv_decode.specs.Rows.{row_mask, row_match, row_number, no_row, matches, find_row, apart, apart_from, all_apart, mask_of, match_of, rows_from, standing_rows, Stands}
 use Rattle.riscv_decode.specs.Statements.{StandingApart, OneRow}
 
@@ -86,6 +86,11 @@ standing_apart = tt
 
 pub standing_one : OneRow
 standing_one i j w l h = one_row standing_rows standing_apart i j w (l, h)
+
+-- row i stands
+pub stands : (i : ℕ) → T (ltb i operation_count) → Stands (get_or standing_rows i no_row)
+unfolding standing_rows rows_from listing
+stands i t = (i, ltb→lt i operation_count t, refl)
 
 -- a row is one of these, as a test
 abbrev same : Row → Row → Bool

@@ -47,10 +47,10 @@ zeros_of_power (suc n) (suc k) h =
     rw (even, half) (ap suc (zeros_of_power n k (omega arith)))
 
 -- what `1 << places` equals, and a number that it does not
-is_power : (x k : ℕ) → k < 32 → 1 * 2 ^ k % 4294967296 ≡ x → Some k ≡ power_of x
+pub is_power : (x k : ℕ) → k < 32 → 1 * 2 ^ k % 4294967296 ≡ x → Some k ≡ power_of x
 is_power x k h e = sym (ap power_of (sym e ∙ one_shl k 32 h) ∙ found_below 32 k h)
 
-no_power : (x : ℕ) → (1 * 2 ^ (count_trailing_zeros 32 x % 32) % 4294967296 ≡ x → ⊥) → None ≡ power_of x
+pub no_power : (x : ℕ) → (1 * 2 ^ (count_trailing_zeros 32 x % 32) % 4294967296 ≡ x → ⊥) → None ≡ power_of x
 no_power x d = go (power_of x) refl
   where
     go : (p : Option ℕ) → power_of x ≡ p → None ≡ p

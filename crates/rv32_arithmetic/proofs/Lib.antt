@@ -2,5 +2,6 @@
 pub mod Extension
 pub mod Divisor
 pub mod Halves
+pub mod Signed
 pub mod Bytes
 pub mod Corners
