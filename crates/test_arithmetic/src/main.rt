@@ -12,19 +12,15 @@ ghost use Rattle.std.specs.Prelude.{◌<◌, ◌≤◌, length};
 
 use lane_word::LaneWord;
 use rv32_arithmetic::{
-    rv32_add, rv32_and, rv32_div, rv32_divu, rv32_eq, rv32_ge, rv32_geu, rv32_mul, rv32_mulh,
-    rv32_mulhsu, rv32_mulhu, rv32_ne, rv32_or, rv32_rem, rv32_remu, rv32_sll, rv32_slt, rv32_sltu,
-    rv32_sra, rv32_srl, rv32_sub, rv32_xor,
+    Binary, rv32_add, rv32_and, rv32_div, rv32_divu, rv32_eq, rv32_ge, rv32_geu, rv32_mul,
+    rv32_mulh, rv32_mulhsu, rv32_mulhu, rv32_ne, rv32_or, rv32_rem, rv32_remu, rv32_sll, rv32_slt,
+    rv32_sltu, rv32_sra, rv32_srl, rv32_sub, rv32_xor, value,
 };
 use std::{array, io};
+use test_support::read_full;
 
-#[derive(Clone, Copy)]
-struct Pair<'a> {
-    operation: &'a str,
-    left: u32,
-    right: u32,
-    result: u32,
-}
+// How many bytes a line has, its end among them.
+const LINE: usize = 34;
 
 #[derive(Clone, Copy, Default)]
 struct Counts {
@@ -33,46 +29,64 @@ struct Counts {
     lanes: u64,
 }
 
-// None where the line has not all that a pair has.
-fn pair_of(line: &str) -> Option<Pair<'_>> {
-    let mut parts = line.split_whitespace();
-    let operation = parts.next()?;
-    let left = u32::from_str_radix(parts.next()?, 16).ok()?;
-    let right = u32::from_str_radix(parts.next()?, 16).ok()?;
-    let result = u32::from_str_radix(parts.next()?, 16).ok()?;
-    Some(Pair {
-        operation,
-        left,
-        right,
-        result,
-    })
+// Every byte stands for a digit.
+fn digit(b: u8) -> u32
+    ensures { result < 16 }
+{
+    if b < b'a' {
+        u32::from(b % 16)
+    } else {
+        u32::from((b % 16 + 9) % 16)
+    }
 }
 
-// The lane word of one operand: lane k has that of pair `first` + k; after the last pair comes the first of all.
-fn column<F: Fn(&Pair) -> u32>(pairs: &[Pair], first: usize, operand: F) -> LaneWord
+fn word_of(digits: &[u8]) -> u32 {
+    let mut word = 0u32;
+    for b in digits {
+        word = word << 4 | digit(*b);
+    }
+    word
+}
+
+fn left(line: &[u8; LINE]) -> u32 {
+    word_of(&line[7..15])
+}
+
+fn right(line: &[u8; LINE]) -> u32 {
+    word_of(&line[16..24])
+}
+
+fn result(line: &[u8; LINE]) -> u32 {
+    word_of(&line[25..33])
+}
+
+// The lane word of one operand: lane k has that of line `first` + k; after the last line comes the first of all.
+fn column<F: Fn(&[u8; LINE]) -> u32>(lines: &[[u8; LINE]], first: usize, operand: F) -> LaneWord
     requires callable { F.IsAlwaysCallable operand }
-    requires within { first < length pairs.now }
+    requires within { first < length lines.now }
 {
     LaneWord {
-        values: array::from_fn(|k| operand(&pairs[(first + k) % pairs.len()])),
+        values: array::from_fn(|k| operand(&lines[(first + k) % lines.len()])),
         known: true,
     }
 }
 
-// What the lane of a pair has, with other pairs around it.
-fn by_lanes<L: Fn(LaneWord, LaneWord) -> LaneWord>(pairs: &[Pair], k: usize, lanes: &L) -> u32
+// What the lane of a line has, with other lines around it.
+fn by_lanes<L: Fn(LaneWord, LaneWord) -> LaneWord>(lines: &[[u8; LINE]], k: usize, lanes: &L) -> u32
     requires callable { L.IsAlwaysCallable lanes.now }
-    requires within { k < length pairs.now }
+    requires within { k < length lines.now }
 {
     let lane = k % LaneWord::LANES;
-    let left = column(pairs, k - lane, |pair| pair.left);
-    let right = column(pairs, k - lane, |pair| pair.right);
-    lanes(left, right).values[lane]
+    let lefts = column(lines, k - lane, left);
+    let rights = column(lines, k - lane, right);
+    lanes(lefts, rights).values[lane]
 }
 
+// By words an operation is compared both as the run has it and by its function.
 fn count<W: Fn(u32, u32) -> u32, L: Fn(LaneWord, LaneWord) -> LaneWord>(
-    pairs: &[Pair],
+    lines: &[[u8; LINE]],
     name: &str,
+    operation: Binary,
     word: W,
     lanes: L,
 ) -> Counts
@@ -80,11 +94,12 @@ fn count<W: Fn(u32, u32) -> u32, L: Fn(LaneWord, LaneWord) -> LaneWord>(
     requires lanes { L.IsAlwaysCallable lanes }
 {
     let mut counts = Counts::default();
-    for (k, pair) in pairs.iter().enumerate() {
-        if pair.operation == name {
+    for (k, line) in lines.iter().enumerate() {
+        if &line[..6] == name.as_bytes() {
+            let (a, b, c) = (left(line), right(line), result(line));
             counts.pairs += 1;
-            counts.words += u64::from(word(pair.left, pair.right) != pair.result);
-            counts.lanes += u64::from(by_lanes(pairs, k, &lanes) != pair.result);
+            counts.words += u64::from(value(operation, a, b) != c || word(a, b) != c);
+            counts.lanes += u64::from(by_lanes(lines, k, &lanes) != c);
         }
     }
     counts
@@ -92,73 +107,131 @@ fn count<W: Fn(u32, u32) -> u32, L: Fn(LaneWord, LaneWord) -> LaneWord>(
 
 fn report<W: Fn(u32, u32) -> u32 + Drop, L: Fn(LaneWord, LaneWord) -> LaneWord + Drop>(
     out: &impl Print,
-    pairs: &[Pair],
+    lines: &[[u8; LINE]],
     name: &str,
+    operation: Binary,
     word: W,
     lanes: L,
 ) -> io::Result<()>
     requires word { W.IsAlwaysCallable word }
     requires lanes { L.IsAlwaysCallable lanes }
 {
-    let counts = count(pairs, name, word, lanes);
+    let counts = count(lines, name, operation, word, lanes);
     println!(out;
-        "{name:<6} pairs {}, different by words {}, by lanes {}",
+        "{name} pairs {}, different by words {}, by lanes {}",
         counts.pairs, counts.words, counts.lanes
     )
 }
 
-fn immediates(out: &impl Print, pairs: &[Pair]) -> io::Result<()> {
-    report(out, pairs, "lui", rv32_sra, LaneWord::sra)?;
-    report(out, pairs, "auipc", rv32_add, LaneWord::add)?;
-    report(out, pairs, "addi", rv32_add, LaneWord::add)?;
-    report(out, pairs, "slti", rv32_slt, LaneWord::slt)?;
-    report(out, pairs, "sltiu", rv32_sltu, LaneWord::sltu)?;
-    report(out, pairs, "xori", rv32_xor, LaneWord::xor)?;
-    report(out, pairs, "ori", rv32_or, LaneWord::or)?;
-    report(out, pairs, "andi", rv32_and, LaneWord::and)?;
-    report(out, pairs, "slli", rv32_sll, LaneWord::sll)?;
-    report(out, pairs, "srli", rv32_srl, LaneWord::srl)?;
-    report(out, pairs, "srai", rv32_sra, LaneWord::sra)
+fn immediates(out: &impl Print, lines: &[[u8; LINE]]) -> io::Result<()> {
+    report(out, lines, "lui   ", Binary::Sra, rv32_sra, LaneWord::sra)?;
+    report(out, lines, "auipc ", Binary::Add, rv32_add, LaneWord::add)?;
+    report(out, lines, "addi  ", Binary::Add, rv32_add, LaneWord::add)?;
+    report(out, lines, "slti  ", Binary::Slt, rv32_slt, LaneWord::slt)?;
+    report(
+        out,
+        lines,
+        "sltiu ",
+        Binary::Sltu,
+        rv32_sltu,
+        LaneWord::sltu,
+    )?;
+    report(out, lines, "xori  ", Binary::Xor, rv32_xor, LaneWord::xor)?;
+    report(out, lines, "ori   ", Binary::Or, rv32_or, LaneWord::or)?;
+    report(out, lines, "andi  ", Binary::And, rv32_and, LaneWord::and)?;
+    report(out, lines, "slli  ", Binary::Sll, rv32_sll, LaneWord::sll)?;
+    report(out, lines, "srli  ", Binary::Srl, rv32_srl, LaneWord::srl)?;
+    report(out, lines, "srai  ", Binary::Sra, rv32_sra, LaneWord::sra)
 }
 
-fn branches(out: &impl Print, pairs: &[Pair]) -> io::Result<()> {
-    report(out, pairs, "beq", rv32_eq, LaneWord::eq)?;
-    report(out, pairs, "bne", rv32_ne, LaneWord::ne)?;
-    report(out, pairs, "blt", rv32_slt, LaneWord::slt)?;
-    report(out, pairs, "bge", rv32_ge, LaneWord::ge)?;
-    report(out, pairs, "bltu", rv32_sltu, LaneWord::sltu)?;
-    report(out, pairs, "bgeu", rv32_geu, LaneWord::geu)
+fn branches(out: &impl Print, lines: &[[u8; LINE]]) -> io::Result<()> {
+    report(out, lines, "beq   ", Binary::Eq, rv32_eq, LaneWord::eq)?;
+    report(out, lines, "bne   ", Binary::Ne, rv32_ne, LaneWord::ne)?;
+    report(out, lines, "blt   ", Binary::Slt, rv32_slt, LaneWord::slt)?;
+    report(out, lines, "bge   ", Binary::Ge, rv32_ge, LaneWord::ge)?;
+    report(
+        out,
+        lines,
+        "bltu  ",
+        Binary::Sltu,
+        rv32_sltu,
+        LaneWord::sltu,
+    )?;
+    report(out, lines, "bgeu  ", Binary::Geu, rv32_geu, LaneWord::geu)
 }
 
-fn registers(out: &impl Print, pairs: &[Pair]) -> io::Result<()> {
-    report(out, pairs, "add", rv32_add, LaneWord::add)?;
-    report(out, pairs, "sub", rv32_sub, LaneWord::sub)?;
-    report(out, pairs, "sll", rv32_sll, LaneWord::sll)?;
-    report(out, pairs, "slt", rv32_slt, LaneWord::slt)?;
-    report(out, pairs, "sltu", rv32_sltu, LaneWord::sltu)?;
-    report(out, pairs, "xor", rv32_xor, LaneWord::xor)?;
-    report(out, pairs, "srl", rv32_srl, LaneWord::srl)?;
-    report(out, pairs, "sra", rv32_sra, LaneWord::sra)?;
-    report(out, pairs, "or", rv32_or, LaneWord::or)?;
-    report(out, pairs, "and", rv32_and, LaneWord::and)
+fn registers(out: &impl Print, lines: &[[u8; LINE]]) -> io::Result<()> {
+    report(out, lines, "add   ", Binary::Add, rv32_add, LaneWord::add)?;
+    report(out, lines, "sub   ", Binary::Sub, rv32_sub, LaneWord::sub)?;
+    report(out, lines, "sll   ", Binary::Sll, rv32_sll, LaneWord::sll)?;
+    report(out, lines, "slt   ", Binary::Slt, rv32_slt, LaneWord::slt)?;
+    report(
+        out,
+        lines,
+        "sltu  ",
+        Binary::Sltu,
+        rv32_sltu,
+        LaneWord::sltu,
+    )?;
+    report(out, lines, "xor   ", Binary::Xor, rv32_xor, LaneWord::xor)?;
+    report(out, lines, "srl   ", Binary::Srl, rv32_srl, LaneWord::srl)?;
+    report(out, lines, "sra   ", Binary::Sra, rv32_sra, LaneWord::sra)?;
+    report(out, lines, "or    ", Binary::Or, rv32_or, LaneWord::or)?;
+    report(out, lines, "and   ", Binary::And, rv32_and, LaneWord::and)
 }
 
-fn products(out: &impl Print, pairs: &[Pair]) -> io::Result<()> {
-    report(out, pairs, "mul", rv32_mul, LaneWord::mul)?;
-    report(out, pairs, "mulh", rv32_mulh, LaneWord::mulh)?;
-    report(out, pairs, "mulhsu", rv32_mulhsu, LaneWord::mulhsu)?;
-    report(out, pairs, "mulhu", rv32_mulhu, LaneWord::mulhu)?;
-    report(out, pairs, "div", rv32_div, LaneWord::div)?;
-    report(out, pairs, "divu", rv32_divu, LaneWord::divu)?;
-    report(out, pairs, "rem", rv32_rem, LaneWord::rem)?;
-    report(out, pairs, "remu", rv32_remu, LaneWord::remu)
+fn products(out: &impl Print, lines: &[[u8; LINE]]) -> io::Result<()> {
+    report(out, lines, "mul   ", Binary::Mul, rv32_mul, LaneWord::mul)?;
+    report(
+        out,
+        lines,
+        "mulh  ",
+        Binary::Mulh,
+        rv32_mulh,
+        LaneWord::mulh,
+    )?;
+    report(
+        out,
+        lines,
+        "mulhsu",
+        Binary::Mulhsu,
+        rv32_mulhsu,
+        LaneWord::mulhsu,
+    )?;
+    report(
+        out,
+        lines,
+        "mulhu ",
+        Binary::Mulhu,
+        rv32_mulhu,
+        LaneWord::mulhu,
+    )?;
+    report(out, lines, "div   ", Binary::Div, rv32_div, LaneWord::div)?;
+    report(
+        out,
+        lines,
+        "divu  ",
+        Binary::Divu,
+        rv32_divu,
+        LaneWord::divu,
+    )?;
+    report(out, lines, "rem   ", Binary::Rem, rv32_rem, LaneWord::rem)?;
+    report(
+        out,
+        lines,
+        "remu  ",
+        Binary::Remu,
+        rv32_remu,
+        LaneWord::remu,
+    )
 }
 
 fn main(rt: HostRuntime) -> io::Result<()> {
-    let text = io::read_to_string(rt.alloc(), rt.reader())?;
-    let pairs: Vec<Pair> = text.lines().filter_map(pair_of).collect(rt.alloc())?;
-    immediates(&rt, &pairs)?;
-    branches(&rt, &pairs)?;
-    registers(&rt, &pairs)?;
-    products(&rt, &pairs)
+    let mut buffer = [0u8; 65_536];
+    let count = read_full(&mut rt.stdin(), &mut buffer)?;
+    let (lines, _) = buffer[..count].as_chunks::<LINE>();
+    immediates(&rt, lines)?;
+    branches(&rt, lines)?;
+    registers(&rt, lines)?;
+    products(&rt, lines)
 }

@@ -3,7 +3,8 @@
 
 use riscv_decode::{BType, IType, JType, Operation, RType, SType, ShiftType, UType};
 use std::io;
-use test_support::{Listed, read_input};
+use std::io::Read;
+use test_support::Listed;
 
 // Operands, 0 where there is none.
 #[derive(Clone, Copy, Default, PartialEq, Eq)]
@@ -162,26 +163,25 @@ fn of_operation(operation: Operation) -> Entry {
     }
 }
 
-fn next_entry(list: &mut Listed) -> Entry {
-    let number = list.number();
-    let rd = list.number();
-    let rs1 = list.number();
-    let rs2 = list.number();
-    let imm = list.number();
+fn next_entry<R: Read>(list: &mut Listed<R>) -> io::Result<Entry> {
+    let number = list.number()?;
+    let rd = list.number()?;
+    let rs1 = list.number()?;
+    let rs2 = list.number()?;
+    let imm = list.number()?;
     let operands = Operands { rd, rs1, rs2, imm };
-    Entry { number, operands }
+    Ok(Entry { number, operands })
 }
 
 fn main(rt: HostRuntime) -> io::Result<()> {
-    let bytes = read_input(&rt)?;
-    let mut list = Listed { left: &bytes };
-    let words = list.number();
+    let mut list = Listed { reader: rt.stdin() };
+    let words = list.number()?;
     let mut refused = 0u32;
     let mut differing = 0u32;
     for _ in 0..words {
-        let found = riscv_decode::decode(list.number());
+        let found = riscv_decode::decode(list.number()?);
         refused += u32::from(found.is_none());
-        let listed = next_entry(&mut list);
+        let listed = next_entry(&mut list)?;
         differing += u32::from(found.map_or(Entry::default(), of_operation) != listed);
     }
     println!(rt;

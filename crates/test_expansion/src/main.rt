@@ -2,7 +2,8 @@
 #![tactic(auto)]
 
 use std::io;
-use test_support::{Listed, read_input};
+use std::io::Read;
+use test_support::Listed;
 
 // What the list has of a halfword: the word, if it expands, and who says so, the Rust or, where that refuses, the assembler.
 #[derive(Clone, Copy)]
@@ -12,25 +13,24 @@ struct Entry {
 }
 
 // No expansion is 0 or 1: 0 stands for a refusal, and 1 comes before the assembler's word.
-fn next_entry(list: &mut Listed) -> Entry {
-    let number = list.number();
+fn next_entry<R: Read>(list: &mut Listed<R>) -> io::Result<Entry> {
+    let number = list.number()?;
     let by_assembler = number == 1;
-    let word = if by_assembler { list.number() } else { number };
-    Entry {
+    let word = if by_assembler { list.number()? } else { number };
+    Ok(Entry {
         word: (word != 0).then_some(word),
         by_assembler,
-    }
+    })
 }
 
 fn main(rt: HostRuntime) -> io::Result<()> {
-    let bytes = read_input(&rt)?;
-    let mut list = Listed { left: &bytes };
+    let mut list = Listed { reader: rt.stdin() };
     let mut by_rust = 0u32;
     let mut by_assembler = 0u32;
     let mut refused = 0u32;
     let mut differing = 0u32;
     for raw in 0..=u16::MAX {
-        let entry = next_entry(&mut list);
+        let entry = next_entry(&mut list)?;
         if riscv32imc::decompress(raw) != entry.word {
             differing += 1;
         } else if entry.word.is_none() {

@@ -4,7 +4,10 @@ use super::show::{OUTCOME_WORDS, OUTPUT_BEFORE, TRACE_BEFORE};
 use std::alloc::Global;
 use std::rt::{Env, Files};
 use std::{env, fs, io};
-use test_support::unlike;
+use test_support::{read_full, unlike};
+
+// As much of a file is read, and no more; the longest of data/ has 65,537 bytes.
+const FILE_BYTES: usize = 65_540;
 
 // The entries of 4,097 steps, and a remainder.
 const TRACE_BYTES: usize = 53_266;
@@ -49,10 +52,12 @@ fn show_file(out: &impl Print, alloc: Global, bytes: &[u8]) -> io::Result<()> {
 }
 
 pub fn files(rt: &(impl AllocGlobal + Env + Files + Print)) -> io::Result<()> {
+    let mut bytes = vec![in rt.alloc(); 0; FILE_BYTES]?;
     for name in env::args(rt)?.skip(1) {
         print!(rt; "{name}")?;
-        let bytes = fs::read(rt, name.as_str())?;
-        show_file(rt, rt.alloc(), &bytes)?;
+        let mut file = fs::open(rt, name.as_str())?;
+        let length = read_full(&mut file, &mut bytes)?;
+        show_file(rt, rt.alloc(), &bytes[..length])?;
     }
     Ok(())
 }

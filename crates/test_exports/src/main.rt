@@ -7,20 +7,22 @@ mod records;
 mod runs;
 mod show;
 
+use records::LENT_BYTES;
 use std::io;
-use test_support::{Listed, read_input};
+use test_support::Listed;
 
 fn main(rt: HostRuntime) -> io::Result<()> {
-    let bytes = read_input(&rt)?;
-    let mut list = Listed { left: &bytes };
-    for _ in 0..list.number() {
+    let mut list = Listed { reader: rt.stdin() };
+    for _ in 0..list.number()? {
         runs::next_run(&rt, rt.alloc(), &mut list)?;
     }
-    for _ in 0..list.number() {
-        records::next_reading(&rt, rt.alloc(), &mut list)?;
+    let mut bytes = [0u8; LENT_BYTES];
+    for _ in 0..list.number()? {
+        records::next_reading(&rt, rt.alloc(), &mut list, &mut bytes)?;
     }
-    for _ in 0..list.number() {
-        records::next_writing(&rt, rt.alloc(), &mut list)?;
+    let mut trace = [0u8; LENT_BYTES];
+    for _ in 0..list.number()? {
+        records::next_writing(&rt, rt.alloc(), &mut list, &mut trace)?;
     }
     files::files(&rt)
 }

@@ -1,13 +1,14 @@
 // The lists of records that are read, and of outcomes that are written.
 use super::show::{
     OUTCOME_WORDS, OUTPUT_BEFORE, TRACE_BEFORE, WORD_BEFORE, WRITTEN_BEFORE, Written, report_bytes,
-    report_fields, report_words,
+    report_fields, report_name, report_words,
 };
 use std::alloc::Global;
 use std::io;
+use std::io::Read;
 use test_support::Listed;
 
-const LENT_BYTES: usize = 1_000;
+pub const LENT_BYTES: usize = 1_000;
 
 // What the reader answers, and the words afterwards.
 #[derive(Clone, Copy)]
@@ -34,20 +35,26 @@ pub fn read_lent(
     Ok(Reading { answer, words })
 }
 
-// The next case: name, the trace's size, the bytes.
-pub fn next_reading(out: &impl Print, alloc: Global, list: &mut Listed) -> io::Result<()> {
-    out.write_all(list.bytes(64))?;
-    let mut trace = vec![in alloc; TRACE_BEFORE; list.size(LENT_BYTES)]?;
-    read_lent(out, alloc, ": ", list.bytes(LENT_BYTES), &mut trace)?;
+// The next case: name, the trace's size, the bytes. Where the list ends within these, the others are the earlier cases', in `bytes`.
+pub fn next_reading<R: Read>(
+    out: &impl Print,
+    alloc: Global,
+    list: &mut Listed<R>,
+    bytes: &mut [u8],
+) -> io::Result<()> {
+    report_name(out, list)?;
+    let mut trace = vec![in alloc; TRACE_BEFORE; list.size(LENT_BYTES)?]?;
+    let length = list.bytes(bytes)?;
+    read_lent(out, alloc, ": ", &bytes[..length], &mut trace)?;
     report_bytes(out, "  trace", &trace)
 }
 
-fn next_words(list: &mut Listed) -> [u32; OUTCOME_WORDS] {
+fn next_words<R: Read>(list: &mut Listed<R>) -> io::Result<[u32; OUTCOME_WORDS]> {
     let mut words = [0u32; OUTCOME_WORDS];
     for word in words.iter_mut() {
-        *word = list.number();
+        *word = list.number()?;
     }
-    words
+    Ok(words)
 }
 
 // Writes an outcome's record.
@@ -57,12 +64,18 @@ pub fn write_lent(words: &[u32; OUTCOME_WORDS], trace: &[u8], output: &mut [u8])
     Written { answer, count }
 }
 
-// The next case: name, words, the output's size, the trace's bytes.
-pub fn next_writing(out: &impl Print, alloc: Global, list: &mut Listed) -> io::Result<()> {
-    out.write_all(list.bytes(64))?;
-    let words = next_words(list);
-    let mut output = vec![in alloc; OUTPUT_BEFORE; list.size(LENT_BYTES)]?;
-    let trace = list.bytes(LENT_BYTES);
-    println!(out; ": {}", write_lent(&words, trace, &mut output))?;
+// The next case: name, words, the output's size, the trace's bytes. Where the list ends within these, the others are the earlier cases',
+// in `trace`.
+pub fn next_writing<R: Read>(
+    out: &impl Print,
+    alloc: Global,
+    list: &mut Listed<R>,
+    trace: &mut [u8],
+) -> io::Result<()> {
+    report_name(out, list)?;
+    let words = next_words(list)?;
+    let mut output = vec![in alloc; OUTPUT_BEFORE; list.size(LENT_BYTES)?]?;
+    let length = list.bytes(trace)?;
+    println!(out; ": {}", write_lent(&words, &trace[..length], &mut output))?;
     report_bytes(out, "  output", &output)
 }

@@ -1,11 +1,12 @@
 // The list of runs: five functions, whose outcome is a record.
 use super::show::{
-    OUTPUT_BEFORE, ROWS_BEFORE, TRACE_BEFORE, WRITTEN_BEFORE, Written, report_bytes,
+    OUTPUT_BEFORE, ROWS_BEFORE, TRACE_BEFORE, WRITTEN_BEFORE, Written, report_bytes, report_name,
 };
 use lane_word::InputRange;
 use predicate_semantics::{Rv32Program, Rv32SymbolLayout};
-use std::alloc::{AllocError, Global};
+use std::alloc::Global;
 use std::io;
+use std::io::Read;
 use test_support::Listed;
 
 // A byte more than the largest image.
@@ -56,46 +57,43 @@ impl From<u32> for Function {
     }
 }
 
-fn next_symbols(list: &mut Listed) -> Rv32SymbolLayout {
-    let entry = list.number();
-    let event_count = list.number();
-    let events = list.number();
-    Rv32SymbolLayout {
+fn next_symbols<R: Read>(list: &mut Listed<R>) -> io::Result<Rv32SymbolLayout> {
+    let entry = list.number()?;
+    let event_count = list.number()?;
+    let events = list.number()?;
+    Ok(Rv32SymbolLayout {
         entry,
         event_count,
         events,
-    }
+    })
 }
 
-fn next_call(list: &mut Listed) -> Call {
-    let function = Function::from(list.number());
-    let symbols = next_symbols(list);
-    let first = (list.number() % 256) as u8;
-    let last = (list.number() % 256) as u8;
+fn next_call<R: Read>(list: &mut Listed<R>) -> io::Result<Call> {
+    let function = Function::from(list.number()?);
+    let symbols = next_symbols(list)?;
+    let first = (list.number()? % 256) as u8;
+    let last = (list.number()? % 256) as u8;
     let range = InputRange { first, last };
-    Call {
+    Ok(Call {
         function,
         symbols,
         range,
-    }
+    })
 }
 
 // Zeros, with bytes at the start and bytes at a place that the list names.
-fn next_image(alloc: Global, list: &mut Listed) -> Result<Vec<u8>, AllocError> {
-    let size = list.size(IMAGE_BYTES);
-    let mut image = vec![in alloc; 0; size]?;
-    let start = list.bytes(size);
-    image[..start.len()].copy_from_slice(start);
-    let at = list.size(size);
-    let later = list.bytes(size - at);
-    image[at..at + later.len()].copy_from_slice(later);
+fn next_image<R: Read>(alloc: Global, list: &mut Listed<R>) -> io::Result<Vec<u8>> {
+    let mut image = vec![in alloc; 0; list.size(IMAGE_BYTES)?]?;
+    list.bytes(&mut image)?;
+    let at = list.size(image.len())?;
+    list.bytes(&mut image[at..])?;
     Ok(image)
 }
 
-fn next_lent(alloc: Global, list: &mut Listed) -> Result<Lent, AllocError> {
-    let rows = vec![in alloc; ROWS_BEFORE; list.size(ROWS_BYTES)]?;
-    let trace = vec![in alloc; TRACE_BEFORE; list.size(TRACE_BYTES)]?;
-    let output = vec![in alloc; OUTPUT_BEFORE; list.size(OUTPUT_BYTES)]?;
+fn next_lent<R: Read>(alloc: Global, list: &mut Listed<R>) -> io::Result<Lent> {
+    let rows = vec![in alloc; ROWS_BEFORE; list.size(ROWS_BYTES)?]?;
+    let trace = vec![in alloc; TRACE_BEFORE; list.size(TRACE_BYTES)?]?;
+    let output = vec![in alloc; OUTPUT_BEFORE; list.size(OUTPUT_BYTES)?]?;
     let image = next_image(alloc, list)?;
     Ok(Lent {
         image,
@@ -183,11 +181,10 @@ fn run(call: Call, lent: &mut Lent) -> Written {
 }
 
 // The next case: name, function, symbols, range, the bytes that are lent, the image's, and what it holds.
-pub fn next_run(out: &impl Print, alloc: Global, list: &mut Listed) -> io::Result<()> {
-    let name = list.bytes(64);
-    let call = next_call(list);
+pub fn next_run<R: Read>(out: &impl Print, alloc: Global, list: &mut Listed<R>) -> io::Result<()> {
+    report_name(out, list)?;
+    let call = next_call(list)?;
     let mut lent = next_lent(alloc, list)?;
-    out.write_all(name)?;
     println!(out; ": {}", run(call, &mut lent))?;
     report_bytes(out, "  rows", &lent.rows)?;
     report_bytes(out, "  trace", &lent.trace)?;

@@ -1,6 +1,8 @@
 // What is lent, and how it is printed.
 use std::alloc::{AllocError, Global};
+use std::io::Read;
 use std::{fmt, io};
+use test_support::Listed;
 
 // What is lent holds before a call, each kind something else.
 pub const ROWS_BEFORE: u8 = 0xa5;
@@ -30,6 +32,13 @@ impl fmt::Display for Written {
     fn fmt<W: fmt::Write>(&self, f: &mut fmt::Formatter<W>) -> fmt::Result {
         write!(f, "{}, written {}", self.answer, self.count)
     }
+}
+
+// The next text of a list, of at most 64 bytes, as it is.
+pub fn report_name<R: Read>(out: &impl Print, list: &mut Listed<R>) -> io::Result<()> {
+    let mut name = [0u8; 64];
+    let length = list.bytes(&mut name)?;
+    out.write_all(&name[..length])
 }
 
 // Equal bytes, all or as their number.

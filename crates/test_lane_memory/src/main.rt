@@ -7,17 +7,13 @@ ghost use Rattle.lane_word.specs.Word.{lanes};
 
 use lane_memory::Found;
 use lane_word::LaneWord;
-use rv32_arithmetic::byte_of;
-use std::alloc::Global;
+use rv32_arithmetic::Binary;
 use std::{array, fmt, io};
-use test_support::unlike;
 
 // What lent memory holds before a case, and its remainder after it.
 const BEFORE: u8 = 0xa5;
 // What an address that was not written reads as.
 const OTHER: u8 = 7;
-// 5,000 rows and a remainder.
-const LENT_BYTES: usize = 1_320_263;
 
 // How many answers, lanes and bytes were compared, and how many differ.
 #[derive(Clone, Copy, Default)]
@@ -122,16 +118,13 @@ impl<A: Fn(u32) -> u32> Filling<'_, A> {
         requires { A.IsAlwaysCallable self.now.address.now }
         ensures { (result.compared ≡ self.now.count) × (result.differing ≤ self.now.count) }
     {
-        let mut differing = 0u64;
+        let mut tally = Tally::default();
         for k in 0..self.count {
             let a = (self.address)(k);
-            differing += u64::from(lane_memory::new_bytes(rows, a, 1) != new);
+            tally = tally.and(answer(lane_memory::new_bytes(rows, a, 1), new));
             lane_memory::store_byte(rows, a, self.word(k), self.place);
         }
-        Tally {
-            compared: u64::from(self.count),
-            differing,
-        }
+        tally
     }
 
     // What is loaded from each of the addresses against what was stored.
@@ -169,21 +162,29 @@ fn pattern(seed: u32) -> LaneWord
 fn byte(value: u32, place: u32) -> u32
     ensures { result < 256 }
 {
-    u32::from(value.to_le_bytes()[place.min(3) as usize])
+    (value >> (8 * place.min(3))) % 256
 }
 
 // The lanes of a loaded byte against byte `place` of a word, and the known flags.
 fn bytes_of(loaded: LaneWord, word: LaneWord, place: u32) -> Tally
     ensures { (result.compared ≡ lanes + 1) × (result.differing ≤ lanes + 1) }
 {
-    let mut differing = u64::from(loaded.known != word.known);
+    let mut tally = answer(loaded.known, word.known);
     for (got, value) in loaded.values.iter().zip(&word.values) {
-        differing += u64::from(*got != byte(*value, place));
+        tally = tally.and(answer(*got, byte(*value, place)));
     }
-    Tally {
-        compared: LaneWord::LANES as u64 + 1,
-        differing,
+    tally
+}
+
+// Each byte against what it has to be.
+fn all_are(memory: &[u8], right: u8) -> Tally
+    ensures { (result.compared ≡ length memory.now) × (result.differing ≤ length memory.now) }
+{
+    let mut tally = Tally::default();
+    for b in memory {
+        tally = tally.and(answer(*b, right));
     }
+    tally
 }
 
 // Whole rows, which end at `end`, are cleared, and what is past them is as before.
@@ -191,13 +192,12 @@ fn bytes(memory: &[u8], end: usize) -> Tally
     ensures { (result.compared ≡ length memory.now) × (result.differing ≤ length memory.now) }
 {
     let (whole, past) = memory.split_at(end.min(memory.len()));
-    Tally {
-        compared: memory.len() as u64,
-        differing: (unlike(whole, 0) + unlike(past, BEFORE)) as u64,
-    }
+    all_are(whole, 0).and(all_are(past, BEFORE))
 }
 
-fn not_written() -> LaneWord {
+fn not_written() -> LaneWord
+    ensures { length result.values ≡ lanes }
+{
     LaneWord::constant(u32::from(OTHER))
 }
 
@@ -254,17 +254,10 @@ fn case<A: Fn(u32) -> u32 + Drop>(rows: &mut [u8], address: A, count: u32) -> Ta
 }
 
 // So many rows and a remainder, in each order.
-fn orders(
-    out: &impl Print,
-    alloc: Global,
-    name: &str,
-    lent_bytes: usize,
-    count: u32,
-) -> io::Result<()> {
-    let mut rows = vec![in alloc; BEFORE; lent_bytes]?;
-    let rising = case(&mut rows, |k| 0x8000_1000u32.wrapping_add(k), count);
-    let falling = case(&mut rows, |k| 0x8010_0000u32.wrapping_sub(k), count);
-    let scattered = case(&mut rows, |k| k.wrapping_mul(2_654_435_761), count);
+fn orders(out: &impl Print, name: &str, rows: &mut [u8], count: u32) -> io::Result<()> {
+    let rising = case(rows, |k| 0x8000_1000u32.wrapping_add(k), count);
+    let falling = case(rows, |k| 0x8010_0000u32.wrapping_sub(k), count);
+    let scattered = case(rows, |k| k.wrapping_mul(2_654_435_761), count);
     println!(out; "{name} {}", rising.and(falling).and(scattered))
 }
 
@@ -347,9 +340,9 @@ fn joining(rows: &[u8], a: u32) -> Tally {
     let high = pattern(16);
     let word = joined(rows, a, high);
     let loaded = lane_memory::load_byte(rows, a, OTHER);
-    let mut tally = bytes_of(word.map_unary(|v| byte_of(v, 0)), loaded, 0);
+    let mut tally = bytes_of(word.map_unary(Binary::Byte, 0), loaded, 0);
     for place in 0..3u32 {
-        let above = word.map_unary(|v| byte_of(v, place + 1));
+        let above = word.map_unary(Binary::Byte, place + 1);
         tally = tally.and(bytes_of(above, high, place));
     }
     tally
@@ -428,12 +421,29 @@ fn uniform(rows: &mut [u8]) -> Tally {
         .and(taken(rows))
 }
 
+// 5,000 rows and a remainder.
+fn lent() -> [u8; 1_320_263] {
+    [0xa5; 1_320_263]
+}
+
+fn part(out: &impl Print, name: &str, memory: &mut [u8], end: usize, count: u32) -> io::Result<()>
+    requires { end ≤ length memory.old }
+{
+    orders(out, name, &mut memory[..end], count)
+}
+
+fn all(out: &impl Print, memory: &mut [u8]) -> io::Result<()>
+    requires { 53063 ≤ length memory.old }
+{
+    println!(out; "without a row {}", no_rows(memory))?;
+    part(out, "4 rows", memory, 1_319, 4)?;
+    part(out, "200 rows", memory, 53_063, 200)?;
+    orders(out, "5000 rows", memory, 5000)?;
+    println!(out; "words {}", words(memory))?;
+    println!(out; "uniform {}", uniform(memory))
+}
+
 fn main(rt: HostRuntime) -> io::Result<()> {
-    let mut memory = vec![in rt.alloc(); BEFORE; LENT_BYTES]?;
-    println!(&rt; "without a row {}", no_rows(&mut memory))?;
-    orders(&rt, rt.alloc(), "4 rows", 1_319, 4)?;
-    orders(&rt, rt.alloc(), "200 rows", 53_063, 200)?;
-    orders(&rt, rt.alloc(), "5000 rows", LENT_BYTES, 5000)?;
-    println!(&rt; "words {}", words(&mut memory))?;
-    println!(&rt; "uniform {}", uniform(&mut memory))
+    let mut memory = lent();
+    all(&rt, &mut memory)
 }

@@ -5,7 +5,7 @@ ghost use Rattle.std.specs.Prelude.{◌<◌};
 ghost use Rattle.lane_word.specs.Word.{lanes};
 
 use lane_word::{InputRange, LaneWord, UniformError};
-use rv32_arithmetic::rv32_divu;
+use rv32_arithmetic::{Binary, value};
 use std::io;
 
 // One value in every lane but one.
@@ -113,7 +113,7 @@ fn report_quotients(out: &impl Print, name: &str, divisor: LaneWord) -> io::Resu
 
 // By one number in every lane, and of the largest word.
 fn report_divided(out: &impl Print, n: u32) -> io::Result<()> {
-    print!(out; "by {n}: ffffffff {}", rv32_divu(0xffff_ffff, n))?;
+    print!(out; "by {n}: ffffffff {}", value(Binary::Divu, 0xffff_ffff, n))?;
     report_quotients(out, ", lanes", LaneWord::constant(n))
 }
 

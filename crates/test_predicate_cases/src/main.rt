@@ -2,8 +2,8 @@
 // inputs, and prints of each run the refusal's number (0: accepted), its role and the completed steps, what an accepted run answers, the
 // last completed step, and how many lent bytes are not as they must be.
 //
-// Loops of 500,000 steps stand in for the bound on steps: past them the entries end the run, not the bound. Another list on standard
-// input has the edges of the bound, with the 13 MB of entries that they take.
+// Loops of 500,000 steps stand in for the bound on steps: no case of the first list is lent entries for more, so past them the entries
+// end the run, not the bound. A second list on standard input has the edges of the bound, with the 13 MB of entries that they take.
 #![tactic(auto)]
 
 use lane_memory::ROW_BYTES;
@@ -12,25 +12,38 @@ use little_endian::get;
 use predicate_answer::{CallError, RecordOutcome};
 use predicate_semantics::{Rv32Program, Rv32SymbolLayout};
 use predicate_trace::ENTRY_BYTES;
-use std::alloc::{AllocError, Global};
+use std::alloc::Global;
 use std::io;
-use test_support::{Listed, read_input, unlike};
+use std::io::Read;
+use test_support::{Listed, unlike};
 
 // What lent memory holds before a run.
 const BEFORE: u8 = 0xa5;
 
-// A byte more than the largest image.
-const IMAGE_BYTES: usize = 1_048_577;
+// The most bytes that an image and a trace of a list's cases have.
+#[derive(Clone, Copy)]
+struct Limits {
+    image: usize,
+    trace: usize,
+}
+
+// A byte more than the largest image; 500,000 entries, and a remainder.
+const USUAL: Limits = Limits {
+    image: 1_048_577,
+    trace: 6_500_005,
+};
+
+// Images of a few instructions; as many entries as a run may have steps, and a remainder.
+const BOUND: Limits = Limits {
+    image: 64,
+    trace: 13_000_005,
+};
 
 // The rows of 33 events, and a remainder.
 const ROWS_BYTES: usize = 106_663;
 
-// As many entries as a run may have steps, and a remainder.
-const TRACE_BYTES: usize = 13_000_005;
-
 #[derive(Drop)]
-struct Case<'a> {
-    name: &'a [u8],
+struct Case {
     program: Rv32Program,
     range: InputRange,
     image: Vec<u8>,
@@ -38,36 +51,43 @@ struct Case<'a> {
     trace: Vec<u8>,
 }
 
-fn next_program(list: &mut Listed) -> Rv32Program {
-    let entry = list.number();
-    let event_count = list.number();
-    let events = list.number();
+fn next_program<R: Read>(list: &mut Listed<R>) -> io::Result<Rv32Program> {
+    let entry = list.number()?;
+    let event_count = list.number()?;
+    let events = list.number()?;
     let symbols = Rv32SymbolLayout {
         entry,
         event_count,
         events,
     };
-    Rv32Program { symbols }
+    Ok(Rv32Program { symbols })
 }
 
-fn next_range(list: &mut Listed) -> InputRange {
-    let first = (list.number() % 256) as u8;
-    let last = (list.number() % 256) as u8;
-    InputRange { first, last }
+fn next_range<R: Read>(list: &mut Listed<R>) -> io::Result<InputRange> {
+    let first = (list.number()? % 256) as u8;
+    let last = (list.number()? % 256) as u8;
+    Ok(InputRange { first, last })
 }
 
-// The next case: name, symbols, inputs, the sizes of image, rows and trace, and the bytes that the image begins with; the others are 0.
-fn next_case<'a>(alloc: Global, list: &mut Listed<'a>) -> Result<Case<'a>, AllocError> {
-    let name = list.bytes(64);
-    let program = next_program(list);
-    let range = next_range(list);
-    let size = list.size(IMAGE_BYTES);
-    let rows = vec![in alloc; BEFORE; list.size(ROWS_BYTES)]?;
-    let trace = vec![in alloc; BEFORE; list.size(TRACE_BYTES)]?;
-    let mut image = Vec::from_slice(alloc, list.bytes(IMAGE_BYTES))?;
-    image.resize(size, 0)?;
+// The next text, of at most 64 bytes, as it is.
+fn report_name<R: Read>(out: &impl Print, list: &mut Listed<R>) -> io::Result<()> {
+    let mut name = [0u8; 64];
+    let length = list.bytes(&mut name)?;
+    out.write_all(&name[..length])
+}
+
+// The next case after its name: symbols, inputs, the sizes of image, rows and trace, and the bytes that the image begins with; the others
+// are 0.
+fn next_case<R: Read>(alloc: Global, list: &mut Listed<R>, limits: Limits) -> io::Result<Case> {
+    let program = next_program(list)?;
+    let range = next_range(list)?;
+    let size = list.size(limits.image)?;
+    let rows = vec![in alloc; BEFORE; list.size(ROWS_BYTES)?]?;
+    let trace = vec![in alloc; BEFORE; list.size(limits.trace)?]?;
+    let mut image = vec![in alloc; 0; limits.image]?;
+    list.bytes(&mut image)?;
+    image.truncate(size);
     Ok(Case {
-        name,
         program,
         range,
         image,
@@ -158,7 +178,6 @@ fn run(out: &impl Print, case: Case) -> io::Result<()> {
         &mut rows,
         &mut trace,
     );
-    out.write_all(case.name)?;
     let steps = report_answer(out, &run)?;
     report_last(out, &trace, steps)?;
     println!(out; ", unlike {}", unlike_after(&rows, &trace, steps))?;
@@ -168,14 +187,22 @@ fn run(out: &impl Print, case: Case) -> io::Result<()> {
     }
 }
 
-fn main(rt: HostRuntime) -> io::Result<()> {
-    let bytes = read_input(&rt)?;
-    let mut list = Listed { left: &bytes };
-    for _ in 0..list.number() {
-        run(&rt, next_case(rt.alloc(), &mut list)?)?;
-    }
-    for _ in 0..list.number() {
-        run(&rt, next_case(rt.alloc(), &mut list)?)?;
+// The cases of one list.
+fn cases<R: Read>(
+    out: &impl Print,
+    alloc: Global,
+    list: &mut Listed<R>,
+    limits: Limits,
+) -> io::Result<()> {
+    for _ in 0..list.number()? {
+        report_name(out, list)?;
+        run(out, next_case(alloc, list, limits)?)?;
     }
     Ok(())
+}
+
+fn main(rt: HostRuntime) -> io::Result<()> {
+    let mut list = Listed { reader: rt.stdin() };
+    cases(&rt, rt.alloc(), &mut list, USUAL)?;
+    cases(&rt, rt.alloc(), &mut list, BOUND)
 }

@@ -5,7 +5,8 @@
 
 use predicate_semantics::{Rv32Program, Rv32SymbolLayout};
 use std::io;
-use test_support::{Listed, read_input};
+use std::io::Read;
+use test_support::{Listed, read_full};
 
 // Whether the image's run is refused or returns something else.
 fn run_differs(image: &[u8], returned: u32) -> bool {
@@ -27,24 +28,30 @@ fn run_differs(image: &[u8], returned: u32) -> bool {
     }
 }
 
-// The images of one operation, each of at most 256 bytes, against their results; a longer one is not read, and its run refused.
-fn next_operation(out: &impl Print, list: &mut Listed) -> io::Result<()> {
-    let name = list.take(8);
-    let images = list.number();
+// The next image, of at most 256 bytes, against its result; a longer one is not read, and its run refused.
+fn next_differs<R: Read>(list: &mut Listed<R>) -> io::Result<bool> {
+    let mut image = [0u8; 256];
+    let returned = list.number()?;
+    let length = list.bytes(&mut image)?;
+    Ok(run_differs(&image[..length], returned))
+}
+
+// The images of one operation.
+fn next_operation<R: Read>(out: &impl Print, list: &mut Listed<R>) -> io::Result<()> {
+    let mut name = [0u8; 8];
+    read_full(&mut list.reader, &mut name)?;
+    let images = list.number()?;
     let mut differing = 0u32;
     for _ in 0..images {
-        let result = list.number();
-        let image = list.bytes(256);
-        differing += u32::from(run_differs(image, result));
+        differing += u32::from(next_differs(list)?);
     }
-    out.write_all(name)?;
+    out.write_all(&name)?;
     println!(out; "{images} images, {differing} differ")
 }
 
 fn main(rt: HostRuntime) -> io::Result<()> {
-    let bytes = read_input(&rt)?;
-    let mut list = Listed { left: &bytes };
-    for _ in 0..list.number() {
+    let mut list = Listed { reader: rt.stdin() };
+    for _ in 0..list.number()? {
         next_operation(&rt, &mut list)?;
     }
     Ok(())
