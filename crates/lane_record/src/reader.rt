@@ -94,6 +94,10 @@ pub fn read_refused(bytes: &[u8]) -> Result<RecordOutcome, ReadError>
 pub fn read_accepted(bytes: &[u8], trace: &mut [u8]) -> Result<RecordOutcome, ReadError>
     ensures { Reads (accepted_in (execution_at bytes.now) bytes.now) trace.old result trace.new }
 {
+    // Too short for a heading, whose fields would be read byte by byte.
+    if bytes.len() < HEADING_BYTES {
+        return Err(ReadError::RulesBroken);
+    }
     let execution = execution_at(bytes);
     if !accepted_form(bytes, execution) || !accepted_valid(bytes, execution) {
         return Err(ReadError::RulesBroken);

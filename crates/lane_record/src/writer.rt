@@ -1,10 +1,10 @@
 // Writing: the rules and then the output's length are tested before anything is written.
-ghost use Rattle.std.specs.Prelude.{◌≡◌, ◌&&◌, map, ◌+◌, ◌*◌, ◌≤◌, leb, length};
+ghost use Rattle.std.specs.Prelude.{◌≡◌, ◌&&◌, ◌∷◌, map, ◌+◌, ◌*◌, ◌≤◌, leb, length};
 ghost use Rattle.std.proofs.lemmas.List.Edits.{sets};
-ghost use Rattle.little_endian.specs.Pack.{AllFit};
+ghost use Rattle.little_endian.specs.Pack.{pack, AllFit};
 ghost use Rattle.predicate_semantics.specs.Program.{stop};
-ghost use Rattle.predicate_trace.specs.Trace.{entry_bytes, step_values, steps_at};
-ghost use Rattle.lane_record.specs.Format.{heading, event, step, widths, size, items, event_values};
+ghost use Rattle.predicate_trace.specs.Trace.{entry_bytes, step_widths, step_values, steps_at};
+ghost use Rattle.lane_record.specs.Format.{heading, event, step, widths, kind_byte, size, items, event_values};
 ghost use Rattle.lane_record.specs.Rules.{execution_valid, linked};
 ghost use Rattle.lane_record.specs.Answers.{given_accepted, given_refused, Writes};
 
@@ -17,7 +17,7 @@ use super::rules::{execution_valid, refusal_valid, steps_linked};
 use predicate_answer::{
     CompiledMmioEvent, MAX_EVENTS, PredicateTransducerExecution, RecordRefusal,
 };
-use predicate_trace::{ENTRY_BYTES, put_entry};
+use predicate_trace::{ENTRY_BYTES, PredicateControlStep, put_entry};
 
 fn put_events(s: &mut [u8], events: &[CompiledMmioEvent])
     requires { size heading + length events.now * size event ≤ length s.old }
@@ -28,14 +28,22 @@ fn put_events(s: &mut [u8], events: &[CompiledMmioEvent])
     }
 }
 
+// A step's item: of a slice as long as one each place is known to lie inside, and no test of bounds is left.
+fn put_step(item: &mut [u8], x: PredicateControlStep)
+    requires { length item.old ≡ size step }
+    ensures { item.new ≡ kind_byte step ∷ pack step_widths (step_values x) }
+{
+    little_endian::put(item, 0, STEP);
+    put_entry(item, 1, x);
+}
+
 fn put_steps(s: &mut [u8], to: usize, trace: &[u8], n: usize)
     requires { (to + n * size step ≤ length s.old) × (n * entry_bytes ≤ length trace.now) }
     ensures { s.new ≡ sets s.old to (items step (map step_values (steps_at 0 n trace.now))) }
 {
     for (k, entry) in trace.chunks_exact(ENTRY_BYTES).take(n).enumerate() {
         let at = to + k * STEP_BYTES;
-        little_endian::put(s, at, STEP);
-        put_entry(s, at + 1, step_at(entry, 0));
+        put_step(&mut s[at..at + STEP_BYTES], step_at(entry, 0));
     }
 }
 

@@ -156,7 +156,7 @@ impl LaneWord {
     }
 
     // A function of each value.
-    pub fn map_unary<F: Fn(u32) -> u32>(mut self, f: F) -> LaneWord
+    fn map_values<F: Fn(u32) -> u32>(mut self, f: F) -> LaneWord
         requires { F.IsAlwaysCallable f }
         ensures { (operation : ℕ → ℕ) → OfValue (F.post f) operation → result ≡ unary operation self }
     {
@@ -167,7 +167,7 @@ impl LaneWord {
     }
 
     // A function of the two values of each lane.
-    pub fn map_binary<F: Fn(u32, u32) -> u32>(mut self, right: LaneWord, f: F) -> LaneWord
+    fn zip_values<F: Fn(u32, u32) -> u32>(mut self, right: LaneWord, f: F) -> LaneWord
         requires { F.IsAlwaysCallable f }
         ensures { (operation : ℕ → ℕ → ℕ) → OfTwoValues (F.post f) operation → result ≡ binary operation self right }
     {
@@ -178,94 +178,108 @@ impl LaneWord {
         self
     }
 
+    // An operation of each value and one number.
+    pub fn map_unary(self, operation: Binary, operand: u32) -> LaneWord
+        ensures { result ≡ unary (λ v. value_of operation v operand) self }
+    {
+        self.map_values(|v| value(operation, v, operand))
+    }
+
+    // An operation of the two values of each lane.
+    pub fn map_binary(self, right: LaneWord, operation: Binary) -> LaneWord
+        ensures { result ≡ binary (value_of operation) self right }
+    {
+        self.zip_values(right, |a, b| value(operation, a, b))
+    }
+
     pub fn add(self, right: LaneWord) -> LaneWord
         ensures { result ≡ binary add self right }
     {
-        self.map_binary(right, rv32_add)
+        self.zip_values(right, rv32_add)
     }
 
     pub fn sub(self, right: LaneWord) -> LaneWord
         ensures { result ≡ binary sub self right }
     {
-        self.map_binary(right, rv32_sub)
+        self.zip_values(right, rv32_sub)
     }
 
     pub fn sll(self, right: LaneWord) -> LaneWord
         ensures { result ≡ binary sll self right }
     {
-        self.map_binary(right, rv32_sll)
+        self.zip_values(right, rv32_sll)
     }
 
     pub fn slt(self, right: LaneWord) -> LaneWord
         ensures { result ≡ binary slt self right }
     {
-        self.map_binary(right, rv32_slt)
+        self.zip_values(right, rv32_slt)
     }
 
     pub fn sltu(self, right: LaneWord) -> LaneWord
         ensures { result ≡ binary sltu self right }
     {
-        self.map_binary(right, rv32_sltu)
+        self.zip_values(right, rv32_sltu)
     }
 
     pub fn xor(self, right: LaneWord) -> LaneWord
         ensures { result ≡ binary xor self right }
     {
-        self.map_binary(right, rv32_xor)
+        self.zip_values(right, rv32_xor)
     }
 
     pub fn srl(self, right: LaneWord) -> LaneWord
         ensures { result ≡ binary srl self right }
     {
-        self.map_binary(right, rv32_srl)
+        self.zip_values(right, rv32_srl)
     }
 
     pub fn sra(self, right: LaneWord) -> LaneWord
         ensures { result ≡ binary sra self right }
     {
-        self.map_binary(right, rv32_sra)
+        self.zip_values(right, rv32_sra)
     }
 
     pub fn or(self, right: LaneWord) -> LaneWord
         ensures { result ≡ binary or self right }
     {
-        self.map_binary(right, rv32_or)
+        self.zip_values(right, rv32_or)
     }
 
     pub fn and(self, right: LaneWord) -> LaneWord
         ensures { result ≡ binary and self right }
     {
-        self.map_binary(right, rv32_and)
+        self.zip_values(right, rv32_and)
     }
 
     pub fn mul(self, right: LaneWord) -> LaneWord
         ensures { result ≡ binary mul self right }
     {
-        self.map_binary(right, rv32_mul)
+        self.zip_values(right, rv32_mul)
     }
 
     pub fn mulh(self, right: LaneWord) -> LaneWord
         ensures { result ≡ binary mulh self right }
     {
-        self.map_binary(right, rv32_mulh)
+        self.zip_values(right, rv32_mulh)
     }
 
     pub fn mulhsu(self, right: LaneWord) -> LaneWord
         ensures { result ≡ binary mulhsu self right }
     {
-        self.map_binary(right, rv32_mulhsu)
+        self.zip_values(right, rv32_mulhsu)
     }
 
     pub fn mulhu(self, right: LaneWord) -> LaneWord
         ensures { result ≡ binary mulhu self right }
     {
-        self.map_binary(right, rv32_mulhu)
+        self.zip_values(right, rv32_mulhu)
     }
 
     pub fn div(self, right: LaneWord) -> LaneWord
         ensures { result ≡ binary div self right }
     {
-        self.map_binary(right, rv32_div)
+        self.zip_values(right, rv32_div)
     }
 
     // By one power of two in every lane, a shift that is chosen once for the word.
@@ -273,60 +287,60 @@ impl LaneWord {
         ensures { result ≡ binary divu self right }
     {
         match common_power(&right) {
-            Some(places) => self.map_unary(|v| rv32_srl(v, places)),
-            None => self.map_binary(right, rv32_divu),
+            Some(places) => self.map_values(|v| rv32_srl(v, places)),
+            None => self.zip_values(right, rv32_divu),
         }
     }
 
     pub fn rem(self, right: LaneWord) -> LaneWord
         ensures { result ≡ binary rem self right }
     {
-        self.map_binary(right, rv32_rem)
+        self.zip_values(right, rv32_rem)
     }
 
     pub fn remu(self, right: LaneWord) -> LaneWord
         ensures { result ≡ binary remu self right }
     {
-        self.map_binary(right, rv32_remu)
+        self.zip_values(right, rv32_remu)
     }
 
     // The branch tests, 1 where the branch is taken; BLT and BLTU have those of SLT and SLTU.
     pub fn eq(self, right: LaneWord) -> LaneWord
         ensures { result ≡ binary beq self right }
     {
-        self.map_binary(right, rv32_eq)
+        self.zip_values(right, rv32_eq)
     }
 
     pub fn ne(self, right: LaneWord) -> LaneWord
         ensures { result ≡ binary bne self right }
     {
-        self.map_binary(right, rv32_ne)
+        self.zip_values(right, rv32_ne)
     }
 
     pub fn ge(self, right: LaneWord) -> LaneWord
         ensures { result ≡ binary bge self right }
     {
-        self.map_binary(right, rv32_ge)
+        self.zip_values(right, rv32_ge)
     }
 
     pub fn geu(self, right: LaneWord) -> LaneWord
         ensures { result ≡ binary bgeu self right }
     {
-        self.map_binary(right, rv32_geu)
+        self.zip_values(right, rv32_geu)
     }
 
     // Where JALR goes: the sum with bit 0 cleared.
     pub fn jump_target(self, offset: LaneWord) -> LaneWord
         ensures { result ≡ binary target self offset }
     {
-        self.map_binary(offset, jump_target)
+        self.zip_values(offset, jump_target)
     }
 
     // A loaded byte or halfword by its sign.
     pub fn sign_extend(self, bits: u32) -> LaneWord
         ensures { result ≡ unary (λ v. sign_extend v bits) self }
     {
-        self.map_unary(|v| sign_extend(v, bits))
+        self.map_values(|v| sign_extend(v, bits))
     }
 
     // The value that all lanes share.

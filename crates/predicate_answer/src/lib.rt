@@ -37,7 +37,7 @@ pub const MAX_EVENTS: usize = 32;
 // What a word that is not known or not uniform was read for.
 #[derive(Clone, Copy, Debug)]
 pub enum Role {
-    Fetch = 1,
+    Fetch,
     JumpTarget,
     LoadAddress,
     StoreAddress,
@@ -100,7 +100,7 @@ impl From<Role> for u8 {
     ghost from_gives = { λ role number. number ≡ role_of role };
 
     fn from(role: Role) -> u8 {
-        role as u8
+        role as u8 + 1
     }
 }
 

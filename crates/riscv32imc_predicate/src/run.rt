@@ -18,7 +18,7 @@ use super::{
 use lane_word::{LaneWord, lanes_of, tell, told_by};
 use predicate_action::{Extension, Reading};
 use predicate_semantics::Rv32SymbolLayout;
-use rv32_arithmetic::{Binary, value};
+use rv32_arithmetic::Binary;
 
 fn second_operand(reading: Reading, second: Option<u32>) -> Option<u32>
     ensures { result ≡ operand_told reading second }
@@ -66,7 +66,7 @@ fn operate(function: Binary, one: LaneWord, other: LaneWord) -> LaneWord
         Binary::Target => return one.jump_target(other),
         _ => {}
     }
-    one.map_binary(other, |a, b| value(function, a, b))
+    one.map_binary(other, function)
 }
 
 // Where a register is set; what is set in x0 is read by none.
