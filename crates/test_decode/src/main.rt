@@ -4,7 +4,7 @@
 use riscv_decode::{BType, IType, JType, Operation, RType, SType, ShiftType, UType};
 use std::io;
 use std::io::Read;
-use test_support::Listed;
+use test_support::ListReader;
 
 // Operands, 0 where there is none.
 #[derive(Clone, Copy, Default, PartialEq, Eq)]
@@ -163,7 +163,7 @@ fn of_operation(operation: Operation) -> Entry {
     }
 }
 
-fn next_entry<R: Read>(list: &mut Listed<R>) -> io::Result<Entry> {
+fn next_entry<R: Read>(list: &mut ListReader<R>) -> io::Result<Entry> {
     let number = list.number()?;
     let rd = list.number()?;
     let rs1 = list.number()?;
@@ -174,7 +174,7 @@ fn next_entry<R: Read>(list: &mut Listed<R>) -> io::Result<Entry> {
 }
 
 fn main(rt: HostRuntime) -> io::Result<()> {
-    let mut list = Listed { reader: rt.stdin() };
+    let mut list = ListReader { reader: rt.stdin() };
     let words = list.number()?;
     let mut refused = 0u32;
     let mut differing = 0u32;

@@ -3,7 +3,7 @@
 
 use std::io;
 use std::io::Read;
-use test_support::Listed;
+use test_support::ListReader;
 
 // What the list has of a halfword: the word, if it expands, and who says so, the Rust or, where that refuses, the assembler.
 #[derive(Clone, Copy)]
@@ -13,7 +13,7 @@ struct Entry {
 }
 
 // No expansion is 0 or 1: 0 stands for a refusal, and 1 comes before the assembler's word.
-fn next_entry<R: Read>(list: &mut Listed<R>) -> io::Result<Entry> {
+fn next_entry<R: Read>(list: &mut ListReader<R>) -> io::Result<Entry> {
     let number = list.number()?;
     let by_assembler = number == 1;
     let word = if by_assembler { list.number()? } else { number };
@@ -24,7 +24,7 @@ fn next_entry<R: Read>(list: &mut Listed<R>) -> io::Result<Entry> {
 }
 
 fn main(rt: HostRuntime) -> io::Result<()> {
-    let mut list = Listed { reader: rt.stdin() };
+    let mut list = ListReader { reader: rt.stdin() };
     let mut by_rust = 0u32;
     let mut by_assembler = 0u32;
     let mut refused = 0u32;

@@ -9,10 +9,10 @@ mod show;
 
 use records::LENT_BYTES;
 use std::io;
-use test_support::Listed;
+use test_support::ListReader;
 
 fn main(rt: HostRuntime) -> io::Result<()> {
-    let mut list = Listed { reader: rt.stdin() };
+    let mut list = ListReader { reader: rt.stdin() };
     for _ in 0..list.number()? {
         runs::next_run(&rt, rt.alloc(), &mut list)?;
     }

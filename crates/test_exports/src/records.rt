@@ -6,7 +6,7 @@ use super::show::{
 use std::alloc::Global;
 use std::io;
 use std::io::Read;
-use test_support::Listed;
+use test_support::ListReader;
 
 pub const LENT_BYTES: usize = 1_000;
 
@@ -39,7 +39,7 @@ pub fn read_lent(
 pub fn next_reading<R: Read>(
     out: &impl Print,
     alloc: Global,
-    list: &mut Listed<R>,
+    list: &mut ListReader<R>,
     bytes: &mut [u8],
 ) -> io::Result<()> {
     report_name(out, list)?;
@@ -49,7 +49,7 @@ pub fn next_reading<R: Read>(
     report_bytes(out, "  trace", &trace)
 }
 
-fn next_words<R: Read>(list: &mut Listed<R>) -> io::Result<[u32; OUTCOME_WORDS]> {
+fn next_words<R: Read>(list: &mut ListReader<R>) -> io::Result<[u32; OUTCOME_WORDS]> {
     let mut words = [0u32; OUTCOME_WORDS];
     for word in words.iter_mut() {
         *word = list.number()?;
@@ -69,7 +69,7 @@ pub fn write_lent(words: &[u32; OUTCOME_WORDS], trace: &[u8], output: &mut [u8])
 pub fn next_writing<R: Read>(
     out: &impl Print,
     alloc: Global,
-    list: &mut Listed<R>,
+    list: &mut ListReader<R>,
     trace: &mut [u8],
 ) -> io::Result<()> {
     report_name(out, list)?;

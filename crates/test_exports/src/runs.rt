@@ -7,7 +7,7 @@ use predicate_semantics::{Rv32Program, Rv32SymbolLayout};
 use std::alloc::Global;
 use std::io;
 use std::io::Read;
-use test_support::Listed;
+use test_support::ListReader;
 
 // A byte more than the largest image.
 const IMAGE_BYTES: usize = 1_048_577;
@@ -57,7 +57,7 @@ impl From<u32> for Function {
     }
 }
 
-fn next_symbols<R: Read>(list: &mut Listed<R>) -> io::Result<Rv32SymbolLayout> {
+fn next_symbols<R: Read>(list: &mut ListReader<R>) -> io::Result<Rv32SymbolLayout> {
     let entry = list.number()?;
     let event_count = list.number()?;
     let events = list.number()?;
@@ -68,7 +68,7 @@ fn next_symbols<R: Read>(list: &mut Listed<R>) -> io::Result<Rv32SymbolLayout> {
     })
 }
 
-fn next_call<R: Read>(list: &mut Listed<R>) -> io::Result<Call> {
+fn next_call<R: Read>(list: &mut ListReader<R>) -> io::Result<Call> {
     let function = Function::from(list.number()?);
     let symbols = next_symbols(list)?;
     let first = (list.number()? % 256) as u8;
@@ -82,7 +82,7 @@ fn next_call<R: Read>(list: &mut Listed<R>) -> io::Result<Call> {
 }
 
 // Zeros, with bytes at the start and bytes at a place that the list names.
-fn next_image<R: Read>(alloc: Global, list: &mut Listed<R>) -> io::Result<Vec<u8>> {
+fn next_image<R: Read>(alloc: Global, list: &mut ListReader<R>) -> io::Result<Vec<u8>> {
     let mut image = vec![in alloc; 0; list.size(IMAGE_BYTES)?]?;
     list.bytes(&mut image)?;
     let at = list.size(image.len())?;
@@ -90,7 +90,7 @@ fn next_image<R: Read>(alloc: Global, list: &mut Listed<R>) -> io::Result<Vec<u8
     Ok(image)
 }
 
-fn next_lent<R: Read>(alloc: Global, list: &mut Listed<R>) -> io::Result<Lent> {
+fn next_lent<R: Read>(alloc: Global, list: &mut ListReader<R>) -> io::Result<Lent> {
     let rows = vec![in alloc; ROWS_BEFORE; list.size(ROWS_BYTES)?]?;
     let trace = vec![in alloc; TRACE_BEFORE; list.size(TRACE_BYTES)?]?;
     let output = vec![in alloc; OUTPUT_BEFORE; list.size(OUTPUT_BYTES)?]?;
@@ -181,7 +181,11 @@ fn run(call: Call, lent: &mut Lent) -> Written {
 }
 
 // The next case: name, function, symbols, range, the bytes that are lent, the image's, and what it holds.
-pub fn next_run<R: Read>(out: &impl Print, alloc: Global, list: &mut Listed<R>) -> io::Result<()> {
+pub fn next_run<R: Read>(
+    out: &impl Print,
+    alloc: Global,
+    list: &mut ListReader<R>,
+) -> io::Result<()> {
     report_name(out, list)?;
     let call = next_call(list)?;
     let mut lent = next_lent(alloc, list)?;

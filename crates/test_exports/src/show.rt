@@ -2,7 +2,7 @@
 use std::alloc::{AllocError, Global};
 use std::io::Read;
 use std::{fmt, io};
-use test_support::Listed;
+use test_support::ListReader;
 
 // What is lent holds before a call, each kind something else.
 pub const ROWS_BEFORE: u8 = 0xa5;
@@ -35,7 +35,7 @@ impl fmt::Display for Written {
 }
 
 // The next text of a list, of at most 64 bytes, as it is.
-pub fn report_name<R: Read>(out: &impl Print, list: &mut Listed<R>) -> io::Result<()> {
+pub fn report_name<R: Read>(out: &impl Print, list: &mut ListReader<R>) -> io::Result<()> {
     let mut name = [0u8; 64];
     let length = list.bytes(&mut name)?;
     out.write_all(&name[..length])

@@ -3,13 +3,13 @@
 
 use std::io;
 use std::io::Read;
-use test_support::{Heading, Listed};
+use test_support::{Heading, ListReader};
 
 // A record of 32 events and 2,048 steps.
 const RECORD_BYTES: usize = 29_237;
 
 // The next input: its name, and its own bytes. It is run in 200 rows and 2,048 entries.
-fn run_next<R: Read>(out: &impl Print, list: &mut Listed<R>) -> io::Result<()> {
+fn run_next<R: Read>(out: &impl Print, list: &mut ListReader<R>) -> io::Result<()> {
     let mut rows = [0u8; 52800];
     let mut trace = [0u8; 26624];
     let mut output = [0u8; RECORD_BYTES];
@@ -25,7 +25,7 @@ fn run_next<R: Read>(out: &impl Print, list: &mut Listed<R>) -> io::Result<()> {
 }
 
 fn main(rt: HostRuntime) -> io::Result<()> {
-    let mut list = Listed { reader: rt.stdin() };
+    let mut list = ListReader { reader: rt.stdin() };
     for _ in 0..list.number()? {
         run_next(&rt, &mut list)?;
     }

@@ -15,7 +15,7 @@ use predicate_trace::ENTRY_BYTES;
 use std::alloc::Global;
 use std::io;
 use std::io::Read;
-use test_support::{Listed, unlike};
+use test_support::{ListReader, unlike};
 
 // What lent memory holds before a run.
 const BEFORE: u8 = 0xa5;
@@ -51,7 +51,7 @@ struct Case {
     trace: Vec<u8>,
 }
 
-fn next_program<R: Read>(list: &mut Listed<R>) -> io::Result<Rv32Program> {
+fn next_program<R: Read>(list: &mut ListReader<R>) -> io::Result<Rv32Program> {
     let entry = list.number()?;
     let event_count = list.number()?;
     let events = list.number()?;
@@ -63,14 +63,14 @@ fn next_program<R: Read>(list: &mut Listed<R>) -> io::Result<Rv32Program> {
     Ok(Rv32Program { symbols })
 }
 
-fn next_range<R: Read>(list: &mut Listed<R>) -> io::Result<InputRange> {
+fn next_range<R: Read>(list: &mut ListReader<R>) -> io::Result<InputRange> {
     let first = (list.number()? % 256) as u8;
     let last = (list.number()? % 256) as u8;
     Ok(InputRange { first, last })
 }
 
 // The next text, of at most 64 bytes, as it is.
-fn report_name<R: Read>(out: &impl Print, list: &mut Listed<R>) -> io::Result<()> {
+fn report_name<R: Read>(out: &impl Print, list: &mut ListReader<R>) -> io::Result<()> {
     let mut name = [0u8; 64];
     let length = list.bytes(&mut name)?;
     out.write_all(&name[..length])
@@ -78,7 +78,7 @@ fn report_name<R: Read>(out: &impl Print, list: &mut Listed<R>) -> io::Result<()
 
 // The next case after its name: symbols, inputs, the sizes of image, rows and trace, and the bytes that the image begins with; the others
 // are 0.
-fn next_case<R: Read>(alloc: Global, list: &mut Listed<R>, limits: Limits) -> io::Result<Case> {
+fn next_case<R: Read>(alloc: Global, list: &mut ListReader<R>, limits: Limits) -> io::Result<Case> {
     let program = next_program(list)?;
     let range = next_range(list)?;
     let size = list.size(limits.image)?;
@@ -191,7 +191,7 @@ fn run(out: &impl Print, case: Case) -> io::Result<()> {
 fn cases<R: Read>(
     out: &impl Print,
     alloc: Global,
-    list: &mut Listed<R>,
+    list: &mut ListReader<R>,
     limits: Limits,
 ) -> io::Result<()> {
     for _ in 0..list.number()? {
@@ -202,7 +202,7 @@ fn cases<R: Read>(
 }
 
 fn main(rt: HostRuntime) -> io::Result<()> {
-    let mut list = Listed { reader: rt.stdin() };
+    let mut list = ListReader { reader: rt.stdin() };
     cases(&rt, rt.alloc(), &mut list, USUAL)?;
     cases(&rt, rt.alloc(), &mut list, BOUND)
 }

@@ -6,7 +6,7 @@
 use predicate_semantics::{Rv32Program, Rv32SymbolLayout};
 use std::io;
 use std::io::Read;
-use test_support::{Listed, read_full};
+use test_support::{ListReader, read_full};
 
 // Whether the image's run is refused or returns something else.
 fn run_differs(image: &[u8], returned: u32) -> bool {
@@ -29,7 +29,7 @@ fn run_differs(image: &[u8], returned: u32) -> bool {
 }
 
 // The next image, of at most 256 bytes, against its result; a longer one is not read, and its run refused.
-fn next_differs<R: Read>(list: &mut Listed<R>) -> io::Result<bool> {
+fn next_differs<R: Read>(list: &mut ListReader<R>) -> io::Result<bool> {
     let mut image = [0u8; 256];
     let returned = list.number()?;
     let length = list.bytes(&mut image)?;
@@ -37,7 +37,7 @@ fn next_differs<R: Read>(list: &mut Listed<R>) -> io::Result<bool> {
 }
 
 // The images of one operation.
-fn next_operation<R: Read>(out: &impl Print, list: &mut Listed<R>) -> io::Result<()> {
+fn next_operation<R: Read>(out: &impl Print, list: &mut ListReader<R>) -> io::Result<()> {
     let mut name = [0u8; 8];
     read_full(&mut list.reader, &mut name)?;
     let images = list.number()?;
@@ -50,7 +50,7 @@ fn next_operation<R: Read>(out: &impl Print, list: &mut Listed<R>) -> io::Result
 }
 
 fn main(rt: HostRuntime) -> io::Result<()> {
-    let mut list = Listed { reader: rt.stdin() };
+    let mut list = ListReader { reader: rt.stdin() };
     for _ in 0..list.number()? {
         next_operation(&rt, &mut list)?;
     }

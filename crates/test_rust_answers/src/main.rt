@@ -6,7 +6,7 @@ use little_endian::get;
 use std::collections::BTreeMap;
 use std::io::Read;
 use std::{fmt, io};
-use test_support::{Listed, unlike};
+use test_support::{ListReader, unlike};
 
 // What lent memory holds before a run.
 const BEFORE: u8 = 0xa5;
@@ -64,7 +64,7 @@ fn agrees(input: &[u8], record: &[u8]) -> bool {
 
 // The next case, counted in its class.
 fn next_case<R: Read>(
-    list: &mut Listed<R>,
+    list: &mut ListReader<R>,
     classes: &mut BTreeMap<Class, Counts>,
 ) -> io::Result<()> {
     let mut input = [0u8; 1024];
@@ -82,7 +82,7 @@ fn next_case<R: Read>(
 }
 
 fn main(rt: HostRuntime) -> io::Result<()> {
-    let mut list = Listed { reader: rt.stdin() };
+    let mut list = ListReader { reader: rt.stdin() };
     let mut classes = BTreeMap::new(rt.alloc());
     for _ in 0..list.number()? {
         next_case(&mut list, &mut classes)?;

@@ -1,2 +1,2 @@
--- What the list on standard input has.
+-- What a list of numbers and bytes has.
 pub mod Listed

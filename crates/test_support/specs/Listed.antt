@@ -1,4 +1,4 @@
--- What the list on standard input has next.
+-- What a list has next.
 use Rattle.std.specs.Prelude.{◌≡◌, ℕ, Bool, List, take, drop, nat_le, ⊤, Option, None, Some}
 use Rattle.little_endian.specs.Number.{value}
 

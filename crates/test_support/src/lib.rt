@@ -1,4 +1,4 @@
-// What the test programs share: the list on standard input, a count of unlike bytes, and a line of a record.
+// What the test programs share: a list of numbers and bytes, a count of unlike bytes, and a line of a record.
 #![tactic(auto)]
 
 ghost use Rattle.std.specs.Prelude.{◌≡◌, ◌≤◌, ◌==◌, [], not, length, count_by, take, drop, min, if◌then◌else◌, IfSome, IfOk, OnOk};
@@ -8,6 +8,13 @@ ghost use Rattle.test_support.specs.Listed.{Leaves, number_at, fits, bytes_at};
 use little_endian::get;
 use std::io::Read;
 use std::{fmt, io};
+
+// All of standard input. No clause says what that is. Input without end runs out of memory: `ListReader` reads no more than what is asked for.
+pub fn read_input<R: Input + Alloc>(rt: &R) -> io::Result<Vec<u8, R::A>> {
+    let mut bytes = Vec::new(rt.alloc());
+    rt.reader().read_to_end(&mut bytes)?;
+    Ok(bytes)
+}
 
 // Up to the end of the reader, or of the buffer: how many bytes were read. Here and below an error is the reader's own, and comes of nothing else; a
 // buffer then holds what was read before it.
@@ -28,13 +35,60 @@ pub fn read_full<R: Read>(reader: &mut R, buffer: &mut [u8]) -> io::Result<usize
     Ok(done)
 }
 
-// A list of numbers, each of 4 bytes from the lowest up, and of bytes, each time with their number before them. No more is read than what is asked for.
+// What is left of a list of numbers, each of 4 bytes from the lowest up, and of bytes, each time with their number before them.
 #[derive(Drop)]
-pub struct Listed<R> {
+pub struct Listed<'a> {
+    pub left: &'a [u8],
+}
+
+impl<'a> Listed<'a> {
+    // So many bytes, or what is left where that is less.
+    pub fn take(&mut self, count: usize) -> &'a [u8]
+        ensures value { result.now ≡ take count self.old.left.now }
+        ensures left { self.new.left.now ≡ drop count self.old.left.now }
+    {
+        let (bytes, left) = self.left.split_at(self.left.len().min(count));
+        self.left = left;
+        bytes
+    }
+
+    // The next number; past the end its bytes are zeros.
+    pub fn number(&mut self) -> u32
+        ensures value { result ≡ number_at self.old.left.now }
+        ensures left { self.new.left.now ≡ drop 4 self.old.left.now }
+    {
+        get::<u32>(self.take(4), 0)
+    }
+
+    // The next number, or the limit where that is less.
+    pub fn size(&mut self, limit: usize) -> usize
+        ensures value { result ≡ min (number_at self.old.left.now) limit }
+        ensures left { self.new.left.now ≡ drop 4 self.old.left.now }
+    {
+        limit.min(self.number() as usize)
+    }
+
+    // The next bytes, behind their number; none, and they stay in the list, where they are more than the limit.
+    pub fn bytes(&mut self, limit: usize) -> &'a [u8]
+        ensures bound { length result.now ≤ limit }
+        ensures value { result.now ≡ (if fits self.old.left.now limit then bytes_at self.old.left.now else []) }
+        ensures left { self.new.left.now ≡ (if fits self.old.left.now limit then drop (number_at self.old.left.now) (drop 4 self.old.left.now) else drop 4 self.old.left.now) }
+    {
+        let count = self.number() as usize;
+        if limit < count {
+            return &[];
+        }
+        self.take(count)
+    }
+}
+
+// Such a list in a reader, which may fail. No more of it is read than what is asked for.
+#[derive(Drop)]
+pub struct ListReader<R> {
     pub reader: R,
 }
 
-impl<R: Read> Listed<R> {
+impl<R: Read> ListReader<R> {
     // The next number; past the end its bytes are zeros.
     pub fn number(&mut self) -> io::Result<u32>
         ensures value { IfOk result (λ n. IfSome (R.remaining self.old.reader) (λ left. n ≡ number_at left)) }
