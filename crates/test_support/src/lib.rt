@@ -1,16 +1,20 @@
 // What the test programs share: a list of numbers and bytes, a count of unlike bytes, and a line of a record.
 #![tactic(auto)]
 
-ghost use Rattle.std.specs.Prelude.{◌≡◌, ◌≤◌, ◌==◌, [], not, length, count_by, take, drop, min, if◌then◌else◌, IfSome, IfOk, OnOk};
+ghost use Rattle.std.specs.Prelude.{◌≡◌, ◌≢◌, ◌≤◌, ◌==◌, [], not, length, count_by, take, drop, min, if◌then◌else◌, IfSome, IfOk, IfErr, OnOk};
 ghost use Rattle.std.specs.Io.{StartsWith};
+ghost use Rattle.std.specs.IoError.{error_kind};
 ghost use Rattle.test_support.specs.Listed.{Leaves, number_at, fits, bytes_at};
 
 use little_endian::get;
-use std::io::Read;
+use std::io::{ErrorKind, Read};
 use std::{fmt, io};
 
-// All of standard input. No clause says what that is. Input without end runs out of memory: `ListReader` reads no more than what is asked for.
-pub fn read_input<R: Input + Alloc>(rt: &R) -> io::Result<Vec<u8, R::A>> {
+// All of standard input; no clause can say what that is. A read that is interrupted is tried again. Input without end runs out of memory: `ListReader`
+// reads no more than what is asked for.
+pub fn read_input<R: Input + Alloc>(rt: &R) -> io::Result<Vec<u8, R::A>>
+    ensures retried { IfErr result (λ e. error_kind e ≢ ErrorKind.Interrupted) }
+{
     let mut bytes = Vec::new(rt.alloc());
     rt.reader().read_to_end(&mut bytes)?;
     Ok(bytes)
